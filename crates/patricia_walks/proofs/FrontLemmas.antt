@@ -1,8 +1,7 @@
 -- Steps of a walk whose next siblings stand behind the first bytes of its path.
 use Rattle.std.proofs.Common.{◌≡◌, ◌≢◌, ℕ, ◌+◌, ◌<◌, ◌≤◌, List, [], ◌∷◌, ◌++◌, length, get_or, take}
-use Rattle.std.proofs.Common.{Bool, true, false, nat_lt, if◌then◌else◌, Option, Some, None}
+use Rattle.std.proofs.Common.{Bool, true, false, nat_lt, if◌then◌else◌, Option, Some, None, slice_get}
 use Rattle.std.proofs.Common.{◌⊎◌, inl, inr, refl, sym, ap, subst, ◌∙◌, arith, length-append}
-use Rattle.std.specs.Option.{option_copied}
 use Rattle.std.proofs.lemmas.Bool.{cases_lt, lt-ltb}
 use Rattle.std.proofs.lemmas.Bool.Decides.{nat_tests}
 use Rattle.std.proofs.lemmas.List.{append_assoc, length-take, map-append, take_all}
@@ -14,11 +13,11 @@ use Rattle.patricia_store.specs.Internal.Nodes.{Node}
 use Rattle.patricia_nodes.specs.Internal.Plans.{plan_at, siblings_at}
 use Rattle.patricia_nodes.proofs.PlanLemmas.{siblings_none}
 use Rattle.patricia_nodes.proofs.SeekLemmas.{head_within}
-use Rattle.patricia_walks.specs.declared.walk.Traversal.{Traversal}
 use Rattle.patricia_walks.specs.Internal.Positions.{Position, IsPosition, AdvancesTo, HasPassed}
 use Rattle.patricia_walks.specs.Internal.Positions.{WaitsAfter, siblings_waiting}
 use Rattle.patricia_walks.specs.Internal.Positions.{state_of, with_siblings, AllPlans}
-use Rattle.patricia_walks.specs.Internal.Fronts.{next_in, stack_in, lent, IsTraversal, Moves}
+use Rattle.patricia_walks.specs.Internal.Fronts.{FrontPosition, next_in, stack_in, seen}
+use Rattle.patricia_walks.specs.Internal.Fronts.{state_at, IsFront, Moves}
 use Rattle.patricia_walks.proofs.AfterLemmas.{after-last}
 use Rattle.patricia_walks.proofs.PassLemmas.{IsPassing, pass_here, pass_last, ended_below}
 use Rattle.patricia_walks.proofs.PositionLemmas.{goes_back, goes_down, steps_trans, drops_none, arrived}
@@ -76,49 +75,41 @@ module _ {V : Type 0} where
       ∙ ap (λ (x : List (ℕ × Option ℕ)). record { nodes = p.nodes; path = p.path; pending = p.pending; next = p.next; stack = x }) e
 
   -- a walk whose next siblings stand behind all of its path
-  abbrev pub plain : Traversal V → Position V
-  plain p = record (lent p) { next = p.next; stack = p.stack.items }
+  abbrev pub plain : FrontPosition V → Position V
+  plain p = record (seen p) { next = p.next; stack = p.stack }
 
   -- is where it seems to be
-  pub lent_at_end : (p : Traversal V) → p.front ≡ length p.path.items → lent p ≡ plain p
-  lent_at_end p e = position_is (lent p) (plain p) refl refl refl (next_at_end p.front p.path.items p.next e)
-      (stack_at_end p.front p.path.items p.next p.stack.items e)
+  pub seen_at_end : (p : FrontPosition V) → p.front ≡ length p.path → seen p ≡ plain p
+  seen_at_end p e = position_is (seen p) (plain p) refl refl refl (next_at_end p.front p.path p.next e)
+      (stack_at_end p.front p.path p.next p.stack e)
 
   -- and so is one without next siblings
-  pub lent_none : (p : Traversal V) → p.next ≡ None → lent p ≡ plain p
-  lent_none p e = position_is (lent p) (plain p) refl refl refl (next_none p.front p.path.items p.next e ∙ sym e)
-      (stack_none p.front p.path.items p.next p.stack.items e)
+  pub seen_none : (p : FrontPosition V) → p.next ≡ None → seen p ≡ plain p
+  seen_none p e = position_is (seen p) (plain p) refl refl refl (next_none p.front p.path p.next e ∙ sym e)
+      (stack_none p.front p.path p.next p.stack e)
 
   -- which has nothing left where none wait
-  pub nothing_left : (p : Traversal V) → p.pending ≡ None → p.next ≡ None → p.stack.items ≡ []
-      → entries_left (state_of (lent p)) ≡ []
+  pub nothing_left : (p : FrontPosition V) → p.pending ≡ None → p.next ≡ None → p.stack ≡ []
+      → entries_left (state_at p) ≡ []
   nothing_left p pending next stack =
-      ap (λ q. entries_left (state_of q)) (lent_none p next)
-      ∙ rw (pending, next, stack, siblings_none p.arena.now.nodes.items) refl
+      ap (λ q. entries_left (state_of q)) (seen_none p next)
+      ∙ rw (pending, next, stack, siblings_none p.nodes) refl
 
 module _ (item : List ℕ → Type 0) {V : Type 0} where
   -- it is at its end then
-  pub traversal_end : (p : Traversal V) → p.path.items ≡ [] → p.front ≡ 0 → p.next ≡ None
-      → p.stack.items ≡ [] → IsTraversal item p
-  traversal_end p path front next stack = record {
-    position = subst (IsPosition item) (sym (lent_none p next)) (position_end item (plain p) path next stack);
+  pub front_end : (p : FrontPosition V) → p.path ≡ [] → p.front ≡ 0 → p.next ≡ None
+      → p.stack ≡ [] → IsFront item p
+  front_end p path front next stack = record {
+    position = subst (IsPosition item) (sym (seen_none p next)) (position_end item (plain p) path next stack);
     within = rw front (omega arith);
   }
 
   -- what a walk is whose next siblings stand behind all of its path
-  pub traversal_at_end : (p : Traversal V) → p.front ≡ length p.path.items → IsPosition item (plain p)
-      → IsTraversal item p
-  traversal_at_end p e w = record {
-    position = subst (IsPosition item) (sym (lent_at_end p e)) w;
+  pub front_at_end : (p : FrontPosition V) → p.front ≡ length p.path → IsPosition item (plain p)
+      → IsFront item p
+  front_at_end p e w = record {
+    position = subst (IsPosition item) (sym (seen_at_end p e)) w;
     within = omega (arith, e);
-  }
-
-  -- where the same is left behind the same path, a walk stands as before
-  pub traversal_same : (p q : Traversal V) → IsTraversal item p → lent q ≡ lent p → q.front ≡ p.front
-      → q.path.items ≡ p.path.items → IsTraversal item q
-  traversal_same p q w is front path = record {
-    position = subst (IsPosition item) (sym is) w.position;
-    within = rw (front, path) w.within;
   }
 
   -- the number of the siblings that wait last is that of a node
@@ -129,13 +120,13 @@ module _ (item : List ℕ → Type 0) {V : Type 0} where
       head_within p.nodes (Some id) (plan_at p.nodes (Some id)) id last.0 refl
 
   -- and so is one that is next
-  pub traversal_within : (p : Traversal V) (id : ℕ) → IsTraversal item p → p.next ≡ Some id
-      → id < length p.arena.now.nodes.items
-  traversal_within p id w next = elim (cases_lt p.front (length p.path.items)) [
-    | inl less ↦ waits_within (lent p) p.front id p.stack.items w.position
-        (stack_before p.front p.path.items p.next p.stack.items less ∙ ap (with_siblings p.stack.items p.front) next)
-    | inr more ↦ position_within item (lent p) id w.position
-        (next_at_end p.front p.path.items p.next (omega (arith, more, w.within)) ∙ next)
+  pub front_within : (p : FrontPosition V) (id : ℕ) → IsFront item p → p.next ≡ Some id
+      → id < length p.nodes
+  front_within p id w next = elim (cases_lt p.front (length p.path)) [
+    | inl less ↦ waits_within (seen p) p.front id p.stack w.position
+        (stack_before p.front p.path p.next p.stack less ∙ ap (with_siblings p.stack p.front) next)
+    | inr more ↦ position_within item (seen p) id w.position
+        (next_at_end p.front p.path p.next (omega (arith, more, w.within)) ∙ next)
   ]
 
   -- the siblings that wait last do so behind fewer bytes than all
@@ -155,18 +146,18 @@ module _ (item : List ℕ → Type 0) {V : Type 0} where
   }
 
   -- a step to a place whose value is taken
-  moves_to : (p q : Traversal V) (value : Option V) (r : Position V) → AdvancesTo item (lent p) r
-      → q.pending ≡ None → q.front ≤ length q.path.items
-      → length q.stack.items ≤ length p.stack.items + 1 → r.pending ≡ value
-      → lent q ≡ record r { pending = None } → Moves item p value q
+  moves_to : (p q : FrontPosition V) (value : Option V) (r : Position V) → AdvancesTo item (seen p) r
+      → q.pending ≡ None → q.front ≤ length q.path
+      → length q.stack ≤ length p.stack + 1 → r.pending ≡ value
+      → seen q ≡ record r { pending = None } → Moves item p value q
   moves_to p q value r w taken within few pending is =
       let es = entries (siblings_at r.nodes r.next) in
       let rest = waiting r.path (siblings_waiting r.nodes r.stack) in
-      let path : q.path.items ≡ r.path = ap (λ (x : Position V). x.path) is in
-      let steps : steps_left (state_of (lent q)) ≡ steps_left (state_of r) = ap (λ (x : Position V). steps_left (state_of x)) is in
+      let path : q.path ≡ r.path = ap (λ (x : Position V). x.path) is in
+      let steps : steps_left (state_at q) ≡ steps_left (state_of r) = ap (λ (x : Position V). steps_left (state_of x)) is in
       record {
         place = record {
-          position = subst (IsPosition item) (sym is) (without_value r (arrived item (lent p) r w));
+          position = subst (IsPosition item) (sym is) (without_value r (arrived item (seen p) r w));
           within = within;
         };
         taken = taken;
@@ -175,146 +166,147 @@ module _ (item : List ℕ → Type 0) {V : Type 0} where
             ∙ append_assoc (prefixed r.path (own r.pending)) (prefixed r.path es) rest
             ∙ ap (λ v. prefixed r.path (own v) ++ (prefixed r.path es ++ rest)) pending
             ∙ ap (λ k. prefixed k (own value) ++ (prefixed r.path es ++ rest)) (sym path)
-            ∙ ap (λ l. prefixed q.path.items (own value) ++ l) (ap (λ (x : Position V). entries_left (state_of x)) (sym is));
+            ∙ ap (λ l. prefixed q.path (own value) ++ l) (ap (λ (x : Position V). entries_left (state_of x)) (sym is));
         less = omega (arith, w.step.less, steps, few);
       }
 
-module _ (item : List ℕ → Type 0) (kind : IsKeyKind item) {V : Type 0} (p : Traversal V) (id : ℕ)
-    (w : IsTraversal item p) (pending : p.pending ≡ None) (next : p.next ≡ Some id) where
+module _ (item : List ℕ → Type 0) (kind : IsKeyKind item) {V : Type 0} (p : FrontPosition V) (id : ℕ)
+    (w : IsFront item p) (pending : p.pending ≡ None) (next : p.next ≡ Some id) where
   -- a walk whose path is cut to the bytes before its next siblings
   abbrev cut : Position V
-  cut = record (lent p) { path = take p.front p.path.items; next = p.next; stack = p.stack.items }
+  cut = record (seen p) { path = take p.front p.path; next = p.next; stack = p.stack }
 
   -- is a step ahead where that are not all bytes
-  cut_step : p.front < length p.path.items → AdvancesTo item (lent p) cut
-  cut_step less = goes_back item kind (lent p) cut p.front p.next w.position (ap option_copied pending)
-      (next_before p.front p.path.items p.next less)
-      (stack_before p.front p.path.items p.next p.stack.items less ∙ ap (with_siblings p.stack.items p.front) next
-      ∙ ap (λ a. p.stack.items ++ (p.front, a) ∷ []) (sym next)) refl refl refl refl
+  cut_step : p.front < length p.path → AdvancesTo item (seen p) cut
+  cut_step less = goes_back item kind (seen p) cut p.front p.next w.position pending
+      (next_before p.front p.path p.next less)
+      (stack_before p.front p.path p.next p.stack less ∙ ap (with_siblings p.stack p.front) next
+      ∙ ap (λ a. p.stack ++ (p.front, a) ∷ []) (sym next)) refl refl refl refl
 
   -- so an entry is left where a node is next
-  pub traversal_filled : entries_left (state_of (lent p)) ≢ []
-  traversal_filled = elim (cases_lt p.front (length p.path.items)) [
+  pub front_filled : entries_left (state_at p) ≢ []
+  front_filled = elim (cases_lt p.front (length p.path)) [
     | inl less ↦ let step = cut_step less in
-        subst (λ es. es ≢ []) step.step.same (position_filled item cut id (arrived item (lent p) cut step) next)
-    | inr more ↦ position_filled item (lent p) id w.position
-        (next_at_end p.front p.path.items p.next (omega (arith, more, w.within)) ∙ next)
+        subst (λ es. es ≢ []) step.step.same (position_filled item cut id (arrived item (seen p) cut step) next)
+    | inr more ↦ position_filled item (seen p) id w.position
+        (next_at_end p.front p.path p.next (omega (arith, more, w.within)) ∙ next)
   ]
 
-module _ (item : List ℕ → Type 0) (kind : IsKeyKind item) {V : Type 0} (p q : Traversal V) (id : ℕ)
-    (n : Node V) (l : List ℕ) (value : Option V) (w : IsTraversal item p) (pending : p.pending ≡ None)
-    (next : p.next ≡ Some id) (reads : n ≡ get_or p.arena.now.nodes.items id n)
-    (nodes : q.arena.now.nodes.items ≡ p.arena.now.nodes.items) (label_is : l ≡ n.label)
-    (path : q.path.items ≡ take p.front p.path.items ++ l) (taken : q.pending ≡ None)
+module _ (item : List ℕ → Type 0) (kind : IsKeyKind item) {V : Type 0} (p q : FrontPosition V) (id : ℕ)
+    (n : Node V) (l : List ℕ) (value : Option V) (w : IsFront item p) (pending : p.pending ≡ None)
+    (next : p.next ≡ Some id) (reads : n ≡ get_or p.nodes id n)
+    (long : length q.nodes ≡ length p.nodes)
+    (others : (i : ℕ) → i ≢ id → slice_get q.nodes i ≡ slice_get p.nodes i) (label_is : l ≡ n.label)
+    (path : q.path ≡ take p.front p.path ++ l) (taken : q.pending ≡ None)
     (value_is : value ≡ n.value) where
   -- the place with the value of the node that was next, its children next and its siblings waiting
   abbrev below : Position V
   below = record {
-    nodes = q.arena.now.nodes.items;
-    path = q.path.items;
+    nodes = q.nodes;
+    path = q.path;
     pending = value;
     next = n.child;
-    stack = with_siblings p.stack.items p.front n.sibling;
+    stack = with_siblings p.stack p.front n.sibling;
   }
 
   -- the front takes all of its bytes
-  front_long : length (take p.front p.path.items) ≡ p.front
-  front_long = let long = length-take p.front p.path.items in omega (arith, long, w.within)
+  front_long : length (take p.front p.path) ≡ p.front
+  front_long = let long = length-take p.front p.path in omega (arith, long, w.within)
 
   -- the step there from behind all of the path
-  below_from_end : p.front ≡ length p.path.items → AdvancesTo item (lent p) below
+  below_from_end : p.front ≡ length p.path → AdvancesTo item (seen p) below
   below_from_end e =
-      subst (λ x. AdvancesTo item x below) (sym (lent_at_end p e))
-      (goes_down item (plain p) below id n l p.front (subst (IsPosition item) (lent_at_end p e) w.position) (ap option_copied pending)
-      next reads (ap length nodes) (λ i _. rw nodes refl) label_is e
-      (path ∙ ap (λ k. k ++ l) (take_all p.front p.path.items (omega (arith, e)))) value_is refl refl)
+      subst (λ x. AdvancesTo item x below) (sym (seen_at_end p e))
+      (goes_down item (plain p) below id n l p.front (subst (IsPosition item) (seen_at_end p e) w.position) pending
+      next reads long others label_is e
+      (path ∙ ap (λ k. k ++ l) (take_all p.front p.path (omega (arith, e)))) value_is refl refl)
 
   -- and from behind fewer bytes, by a step back
-  below_from_front : p.front < length p.path.items → AdvancesTo item (lent p) below
+  below_from_front : p.front < length p.path → AdvancesTo item (seen p) below
   below_from_front less =
       let first = cut item kind p id w pending next in
       let step = cut_step item kind p id w pending next less in
-      steps_trans item (lent p) first below step
-      (goes_down item first below id n l p.front (arrived item (lent p) first step) (ap option_copied pending)
-      next reads (ap length nodes) (λ i _. rw nodes refl) label_is (sym front_long)
+      steps_trans item (seen p) first below step
+      (goes_down item first below id n l p.front (arrived item (seen p) first step) pending
+      next reads long others label_is (sym front_long)
       path value_is refl refl)
 
   -- so from both
-  below_step : AdvancesTo item (lent p) below
-  below_step = elim (cases_lt p.front (length p.path.items)) [
+  below_step : AdvancesTo item (seen p) below
+  below_step = elim (cases_lt p.front (length p.path)) [
     | inl less ↦ below_from_front less
     | inr more ↦ below_from_end (omega (arith, more, w.within))
   ]
 
   -- the front is that of the new path
-  within_path : p.front ≤ length q.path.items
-  within_path = let both = length-append (take p.front p.path.items) l in omega (arith, ap length path, both, front_long)
+  within_path : p.front ≤ length q.path
+  within_path = let both = length-append (take p.front p.path) l in omega (arith, ap length path, both, front_long)
 
   -- after a node without children its siblings are next, behind the same bytes
   pub moves_beside : n.child ≡ None → q.front ≡ p.front → q.next ≡ n.sibling
-      → q.stack.items ≡ p.stack.items → Moves item p value q
+      → q.stack ≡ p.stack → Moves item p value q
   moves_beside child front sibling stack =
       moves_to item p q value below below_step taken (rw front within_path) (omega (arith, ap length stack)) refl
-      (position_is (lent q) (record below { pending = None }) refl refl (ap option_copied taken)
+      (position_is (seen q) (record below { pending = None }) refl refl taken
       (is n.sibling refl).0 (is n.sibling refl).1)
     where
       is : (at : Option ℕ) → n.sibling ≡ at
-          → ((lent q).next ≡ n.child) × ((lent q).stack ≡ with_siblings p.stack.items p.front n.sibling)
+          → ((seen q).next ≡ n.child) × ((seen q).stack ≡ with_siblings p.stack p.front n.sibling)
       is None none = (
-        next_none q.front q.path.items q.next (sibling ∙ none) ∙ sym child,
-        stack_none q.front q.path.items q.next q.stack.items (sibling ∙ none) ∙ stack
-            ∙ ap (with_siblings p.stack.items p.front) (sym none),
+        next_none q.front q.path q.next (sibling ∙ none) ∙ sym child,
+        stack_none q.front q.path q.next q.stack (sibling ∙ none) ∙ stack
+            ∙ ap (with_siblings p.stack p.front) (sym none),
       )
       is (Some i) some =
-          let short : p.front < length q.path.items = waits_short item below p.front (Some i) p.stack.items (arrived item (lent p) below below_step)
-          (ap (with_siblings p.stack.items p.front) some) in
-          let shorter : q.front < length q.path.items = rw front short in (
-            next_before q.front q.path.items q.next shorter ∙ sym child,
-            stack_before q.front q.path.items q.next q.stack.items shorter
+          let short : p.front < length q.path = waits_short item below p.front (Some i) p.stack (arrived item (seen p) below below_step)
+          (ap (with_siblings p.stack p.front) some) in
+          let shorter : q.front < length q.path = rw front short in (
+            next_before q.front q.path q.next shorter ∙ sym child,
+            stack_before q.front q.path q.next q.stack shorter
                 ∙ ap (λ s. with_siblings s q.front q.next) stack
-                ∙ ap (λ f. with_siblings p.stack.items f q.next) front
-                ∙ ap (with_siblings p.stack.items p.front) sibling,
+                ∙ ap (λ f. with_siblings p.stack f q.next) front
+                ∙ ap (with_siblings p.stack p.front) sibling,
           )
 
   -- after others their children are, behind all of the path
-  pub moves_below : q.front ≡ length q.path.items → q.next ≡ n.child
-      → q.stack.items ≡ with_siblings p.stack.items p.front n.sibling → Moves item p value q
+  pub moves_below : q.front ≡ length q.path → q.next ≡ n.child
+      → q.stack ≡ with_siblings p.stack p.front n.sibling → Moves item p value q
   moves_below front child stack =
       moves_to item p q value below below_step taken (omega (arith, front)) (omega (arith, few n.sibling, ap length stack)) refl
-      (lent_at_end q front ∙ position_is (plain q) (record below { pending = None }) refl refl (ap option_copied taken) child stack)
+      (seen_at_end q front ∙ position_is (plain q) (record below { pending = None }) refl refl taken child stack)
     where
-      few : (at : Option ℕ) → length (with_siblings p.stack.items p.front at) ≤ length p.stack.items + 1
+      few : (at : Option ℕ) → length (with_siblings p.stack p.front at) ≤ length p.stack + 1
       few None = omega arith
-      few (Some i) = omega (arith, length-append p.stack.items ((p.front, Some i) ∷ []))
+      few (Some i) = omega (arith, length-append p.stack ((p.front, Some i) ∷ []))
 
-module _ (item : List ℕ → Type 0) {V : Type 0} (p q : Traversal V) (n : ℕ) (at : Option ℕ)
-    (w : IsTraversal item p) (pending : p.pending ≡ None) (next : p.next ≡ None)
-    (stack : p.stack.items ≡ q.stack.items ++ (n, at) ∷ [])
-    (nodes : q.arena.now.nodes.items ≡ p.arena.now.nodes.items) (path : q.path.items ≡ p.path.items)
+module _ (item : List ℕ → Type 0) {V : Type 0} (p q : FrontPosition V) (n : ℕ) (at : Option ℕ)
+    (w : IsFront item p) (pending : p.pending ≡ None) (next : p.next ≡ None)
+    (stack : p.stack ≡ q.stack ++ (n, at) ∷ [])
+    (nodes : q.nodes ≡ p.nodes) (path : q.path ≡ p.path)
     (taken : q.pending ≡ None) (front : q.front ≡ n) (at_is : q.next ≡ at) where
   -- after a step back what is left is as before, and no more steps are
   record Stays : Type 0 where
-    position : IsPosition item (lent q)
-    same : entries_left (state_of (lent p)) ≡ entries_left (state_of (lent q))
-    most : steps_left (state_of (lent q)) ≤ steps_left (state_of (lent p))
+    position : IsPosition item (seen q)
+    same : entries_left (state_at p) ≡ entries_left (state_at q)
+    most : steps_left (state_at q) ≤ steps_left (state_at p)
 
   -- the siblings that waited last do so behind fewer bytes than all
-  back_short : q.front < length q.path.items
+  back_short : q.front < length q.path
   back_short =
-      let short : n < length p.path.items = waits_short item (plain p) n at q.stack.items (subst (IsPosition item) (lent_none p next) w.position) stack in
+      let short : n < length p.path = waits_short item (plain p) n at q.stack (subst (IsPosition item) (seen_none p next) w.position) stack in
       rw (front, path) short
 
   -- siblings go on as they waited
   stays_some : (i : ℕ) → at ≡ Some i → Stays
   stays_some i some =
-      let is : lent q ≡ lent p = position_is (lent q) (plain p) nodes path (ap option_copied taken ∙ sym (ap option_copied pending))
-      (next_before q.front q.path.items q.next back_short ∙ sym next)
-      (stack_before q.front q.path.items q.next q.stack.items back_short
-      ∙ ap (with_siblings q.stack.items q.front) (at_is ∙ some)
-      ∙ ap (λ f. q.stack.items ++ (f, Some i) ∷ []) front
-      ∙ ap (λ a. q.stack.items ++ (n, a) ∷ []) (sym some)
-      ∙ sym stack) ∙ sym (lent_none p next) in
-      let steps : steps_left (state_of (lent q)) ≡ steps_left (state_of (lent p)) = ap (λ (x : Position V). steps_left (state_of x)) is in
+      let is : seen q ≡ seen p = position_is (seen q) (plain p) nodes path (taken ∙ sym pending)
+      (next_before q.front q.path q.next back_short ∙ sym next)
+      (stack_before q.front q.path q.next q.stack back_short
+      ∙ ap (with_siblings q.stack q.front) (at_is ∙ some)
+      ∙ ap (λ f. q.stack ++ (f, Some i) ∷ []) front
+      ∙ ap (λ a. q.stack ++ (n, a) ∷ []) (sym some)
+      ∙ sym stack) ∙ sym (seen_none p next) in
+      let steps : steps_left (state_at q) ≡ steps_left (state_at p) = ap (λ (x : Position V). steps_left (state_of x)) is in
       record {
         position = subst (IsPosition item) (sym is) w.position;
         same = ap (λ (x : Position V). entries_left (state_of x)) (sym is);
@@ -324,13 +316,13 @@ module _ (item : List ℕ → Type 0) {V : Type 0} (p q : Traversal V) (n : ℕ)
   -- and none are forgotten
   stays_none : at ≡ None → Stays
   stays_none none =
-      let here : lent p ≡ plain p = lent_none p next in
-      let there : lent q ≡ plain q = lent_none q (at_is ∙ none) in
+      let here : seen p ≡ plain p = seen_none p next in
+      let there : seen q ≡ plain q = seen_none q (at_is ∙ none) in
       let step = drops_none item (plain p) (plain q) n (subst (IsPosition item) here w.position)
-      (stack ∙ ap (λ a. q.stack.items ++ (n, a) ∷ []) none) nodes path (ap option_copied taken ∙ sym (ap option_copied pending))
+      (stack ∙ ap (λ a. q.stack ++ (n, a) ∷ []) none) nodes path (taken ∙ sym pending)
       (at_is ∙ none ∙ sym next) in
-      let before : steps_left (state_of (lent p)) ≡ steps_left (state_of (plain p)) = ap (λ (x : Position V). steps_left (state_of x)) here in
-      let later : steps_left (state_of (lent q)) ≡ steps_left (state_of (plain q)) = ap (λ (x : Position V). steps_left (state_of x)) there in
+      let before : steps_left (state_at p) ≡ steps_left (state_of (plain p)) = ap (λ (x : Position V). steps_left (state_of x)) here in
+      let later : steps_left (state_at q) ≡ steps_left (state_of (plain q)) = ap (λ (x : Position V). steps_left (state_of x)) there in
       record {
         position = subst (IsPosition item) (sym there) (arrived item (plain p) (plain q) step);
         same = ap (λ (x : Position V). entries_left (state_of x)) here ∙ sym step.step.same
@@ -346,61 +338,61 @@ module _ (item : List ℕ → Type 0) {V : Type 0} (p q : Traversal V) (n : ℕ)
         place = record { position = stays.position; within = omega (arith, back_short) };
         taken = taken;
         left = stays.same;
-        less = omega (arith, stays.most, ap length stack, length-append q.stack.items ((n, at) ∷ []));
+        less = omega (arith, stays.most, ap length stack, length-append q.stack ((n, at) ∷ []));
       }
     where
       by : (a : Option ℕ) → at ≡ a → Stays
       by None none = stays_none none
       by (Some i) some = stays_some i some
 
-module _ (item : List ℕ → Type 0) (kind : IsKeyKind item) {V : Type 0} (len : ℕ) (p q : Traversal V)
-    (w : IsTraversal item p) (nodes : q.arena.now.nodes.items ≡ p.arena.now.nodes.items)
-    (path : q.path.items ≡ p.path.items) (taken : q.pending ≡ None)
-    (stack : q.stack.items ≡ p.stack.items) where
+module _ (item : List ℕ → Type 0) (kind : IsKeyKind item) {V : Type 0} (len : ℕ) (p q : FrontPosition V)
+    (w : IsFront item p) (nodes : q.nodes ≡ p.nodes)
+    (path : q.path ≡ p.path) (taken : q.pending ≡ None)
+    (stack : q.stack ≡ p.stack) where
   -- siblings that are next behind enough bytes are passed, with the value
-  pub pass_next : q.next ≡ None → (p.next ≡ None) ⊎ (len ≤ p.front) → IsPassing item len (lent p) (lent q)
-  pass_next none long = elim (cases_lt p.front (length p.path.items)) [
+  pub pass_next : q.next ≡ None → (p.next ≡ None) ⊎ (len ≤ p.front) → IsPassing item len (seen p) (seen q)
+  pass_next none long = elim (cases_lt p.front (length p.path)) [
     | inl less ↦ by p.next refl less long
-    | inr more ↦ plainly (sym (stack_at_end p.front p.path.items p.next p.stack.items (omega (arith, more, w.within))))
+    | inr more ↦ plainly (sym (stack_at_end p.front p.path p.next p.stack (omega (arith, more, w.within))))
   ]
     where
-      none_next : (lent q).next ≡ None
-      none_next = next_none q.front q.path.items q.next none
+      none_next : (seen q).next ≡ None
+      none_next = next_none q.front q.path q.next none
 
-      stack_is : (lent q).stack ≡ p.stack.items
-      stack_is = stack_none q.front q.path.items q.next q.stack.items none ∙ stack
+      stack_is : (seen q).stack ≡ p.stack
+      stack_is = stack_none q.front q.path q.next q.stack none ∙ stack
 
-      plainly : p.stack.items ≡ (lent p).stack → IsPassing item len (lent p) (lent q)
-      plainly same = pass_here item kind len (lent p) (lent q) w.position nodes path (ap option_copied taken) none_next (stack_is ∙ same)
+      plainly : p.stack ≡ (seen p).stack → IsPassing item len (seen p) (seen q)
+      plainly same = pass_here item kind len (seen p) (seen q) w.position nodes path taken none_next (stack_is ∙ same)
 
-      by : (at : Option ℕ) → p.next ≡ at → p.front < length p.path.items → (p.next ≡ None) ⊎ (len ≤ p.front)
-          → IsPassing item len (lent p) (lent q)
-      by None is less long = plainly (sym (stack_none p.front p.path.items p.next p.stack.items is))
-      by (Some i) is less (inl none) = plainly (sym (stack_none p.front p.path.items p.next p.stack.items none))
+      by : (at : Option ℕ) → p.next ≡ at → p.front < length p.path → (p.next ≡ None) ⊎ (len ≤ p.front)
+          → IsPassing item len (seen p) (seen q)
+      by None is less long = plainly (sym (stack_none p.front p.path p.next p.stack is))
+      by (Some i) is less (inl none) = plainly (sym (stack_none p.front p.path p.next p.stack none))
       by (Some i) is less (inr le) =
-          let first : Position V = record (lent q) { stack = (lent p).stack } in
-          let here = pass_here item kind len (lent p) first w.position nodes path (ap option_copied taken) none_next refl in
-          pass_last item kind len (lent p) first (lent q) p.front (Some i) here le
-          (stack_before p.front p.path.items p.next p.stack.items less ∙ ap (with_siblings p.stack.items p.front) is
+          let first : Position V = record (seen q) { stack = (seen p).stack } in
+          let here = pass_here item kind len (seen p) first w.position nodes path taken none_next refl in
+          pass_last item kind len (seen p) first (seen q) p.front (Some i) here le
+          (stack_before p.front p.path p.next p.stack less ∙ ap (with_siblings p.stack p.front) is
           ∙ ap (λ s. s ++ (p.front, Some i) ∷ []) (sym stack_is)) refl refl refl refl
 
   -- what is next behind fewer bytes comes after the entries that begin with these, and so do those
   -- that wait
-  pub passed_next : (i : ℕ) → IsValid item (take len p.path.items) → len ≤ length p.path.items
+  pub passed_next : (i : ℕ) → IsValid item (take len p.path) → len ≤ length p.path
       → p.front < len → p.next ≡ Some i → q.front ≡ p.front → q.next ≡ p.next
-      → IsTraversal item q
-      × HasPassed (take len p.path.items) (entries_left (state_of (lent p))) (entries_left (state_of (lent q)))
+      → IsFront item q
+      × HasPassed (take len p.path) (entries_left (state_at p)) (entries_left (state_at q))
   passed_next i valid within below some front next =
-      let less : p.front < length p.path.items = omega (arith, below, within) in
-      let shorter : q.front < length q.path.items = rw (front, path) less in
-      let stack_is : (lent q).stack ≡ (lent p).stack = stack_before q.front q.path.items q.next q.stack.items shorter
+      let less : p.front < length p.path = omega (arith, below, within) in
+      let shorter : q.front < length q.path = rw (front, path) less in
+      let stack_is : (seen q).stack ≡ (seen p).stack = stack_before q.front q.path q.next q.stack shorter
       ∙ ap (λ s. with_siblings s q.front q.next) stack
-      ∙ ap (λ f. with_siblings p.stack.items f q.next) front
-      ∙ ap (with_siblings p.stack.items p.front) next
-      ∙ sym (stack_before p.front p.path.items p.next p.stack.items less) in
-      let passing = pass_here item kind len (lent p) (lent q) w.position nodes path (ap option_copied taken)
-      (next_before q.front q.path.items q.next shorter) stack_is in (
+      ∙ ap (λ f. with_siblings p.stack f q.next) front
+      ∙ ap (with_siblings p.stack p.front) next
+      ∙ sym (stack_before p.front p.path p.next p.stack less) in
+      let passing = pass_here item kind len (seen p) (seen q) w.position nodes path taken
+      (next_before q.front q.path q.next shorter) stack_is in (
         record { position = passing.position; within = omega (arith, shorter) },
-        ended_below item kind len (lent p) (lent q) p.stack.items p.front (Some i) passing valid within
-            (stack_is ∙ stack_before p.front p.path.items p.next p.stack.items less ∙ ap (with_siblings p.stack.items p.front) some) below,
+        ended_below item kind len (seen p) (seen q) p.stack p.front (Some i) passing valid within
+            (stack_is ∙ stack_before p.front p.path p.next p.stack less ∙ ap (with_siblings p.stack p.front) some) below,
       )

@@ -8,7 +8,7 @@ ghost use Rattle.patricia_model.specs.Siblings.{own, IsCanonical};
 ghost use Rattle.patricia_model.specs.Internal.WalkStates.{entries_left, TakesEntry};
 ghost use Rattle.patricia_model.specs.Walks.{YieldsOrErr};
 ghost use Rattle.patricia_nodes.specs.Internal.Plans.{IsWellFormed, siblings_of, entries_of};
-ghost use Rattle.patricia_walks.specs.Internal.Positions.{IsPosition, AdvancesTo, state_of, owned};
+ghost use Rattle.patricia_walks.specs.Internal.Fronts.{owned, state_at, IsFront, Moves};
 
 use crate::waiting::push_siblings;
 use patricia_keys::Bytes;
@@ -22,8 +22,10 @@ use std::marker::{Model, PhantomData};
 #[derive(Drop)]
 struct OwnedTraversal<V> {
     arena: NodeArena<V>,
-    // the key of the last value, which stands before the keys of the siblings
+    // the key of the last value
     path: Vec<u8>,
+    // how many bytes of the path stand before the keys of the siblings that are next
+    front: usize,
     // the value at the path, while it is due
     pending: Option<V>,
     // the siblings that are next
@@ -35,63 +37,77 @@ struct OwnedTraversal<V> {
 impl<V: Drop> OwnedTraversal<V> {
     // Ends the walk, and drops what is left.
     fn finish<K: Bytes>(&mut self)
-        ensures left { entries_left (state_of (owned self.new)) ≡ [] }
-        ensures position { IsPosition K.item (owned self.new) }
+        ensures left { entries_left (state_at (owned self.new)) ≡ [] }
+        ensures place { IsFront K.item (owned self.new) }
     {
         self.arena.clear();
         self.path.clear();
+        self.front = 0;
         self.pending = None;
         self.next = Link::none();
         self.stack.clear();
     }
 
-    // Advances to the node's value and its children.
-    fn descend<K: Bytes>(&mut self, id: NodeId) -> Result<(), AllocError>
-        requires position { IsPosition K.item (owned self.old) }
-        requires taken { self.old.pending ≡ None }
+    // Advances to the node that is next, and takes its value. Its children are next then, and its
+    // siblings wait; or its siblings are next, where it has no children.
+    fn descend<K: Bytes>(&mut self, id: NodeId) -> Result<Option<V>, AllocError>
+        requires place { IsFront K.item (owned self.old) }
+        requires taken { (owned self.old).pending ≡ None }
         requires next { self.old.next ≡ Some id }
-        ensures { OnOk result (AdvancesTo K.item (owned self.old) (owned self.new)) }
+        ensures { IfOk result (λ value. Moves K.item (owned self.old) value (owned self.new)) }
     {
         let nodes = &self.arena.nodes;
-        let front = self.path.len();
-        push_siblings(&mut self.stack, front, nodes.sibling(id))?;
-        self.path.extend_from_slice(nodes.label(id))?;
-        self.next = nodes.child(id);
-        self.pending = self.arena.nodes.replace_value(id, None);
-        Ok(())
+        let label = nodes.label(id);
+        let child = nodes.child(id);
+        let sibling = nodes.sibling(id);
+        let front = self.front;
+        self.path.truncate(front);
+        self.path.extend_from_slice(label)?;
+        if child.get().is_none() {
+            self.next = sibling;
+            return Ok(self.arena.nodes.replace_value(id, None));
+        }
+        push_siblings(&mut self.stack, front, sibling)?;
+        self.front = self.path.len();
+        self.next = child;
+        Ok(self.arena.nodes.replace_value(id, None))
     }
 
-    // Goes back to the siblings that wait last, if any wait.
+    // Goes back to the siblings that wait last, if any wait. The path stays.
     fn back<K: Bytes>(&mut self) -> bool
-        requires position { IsPosition K.item (owned self.old) }
-        requires taken { self.old.pending ≡ None }
+        requires place { IsFront K.item (owned self.old) }
+        requires taken { (owned self.old).pending ≡ None }
         requires over { self.old.next ≡ None }
-        ensures step { IsTrue result → AdvancesTo K.item (owned self.old) (owned self.new) }
-        ensures over { result ≡ false → entries_left (state_of (owned self.old)) ≡ [] }
+        ensures step { IsTrue result → Moves K.item (owned self.old) None (owned self.new) }
+        ensures over { result ≡ false → entries_left (state_at (owned self.old)) ≡ [] }
         ensures stays { result ≡ false → owned self.new ≡ owned self.old }
     {
         let Some((front, siblings)) = self.stack.pop() else {
             return false;
         };
-        self.path.truncate(front);
+        self.front = front;
         self.next = siblings;
         true
     }
 
     // Takes the next value, whose key is then the path.
     fn seek<K: Bytes>(&mut self) -> Result<Option<V>, AllocError>
-        requires { IsPosition K.item (owned self.old) }
-        ensures position { OnOk result (IsPosition K.item (owned self.new)) }
+        requires { IsFront K.item (owned self.old) }
+        ensures place { OnOk result (IsFront K.item (owned self.new)) }
         ensures ok { IfOk result (λ found.
-            TakesEntry (state_of (owned self.old)) found (state_of (owned self.new))) }
-        ensures err { OnErr result (entries_left (state_of (owned self.old)) ≢ []) }
+            TakesEntry (state_at (owned self.old)) found (state_at (owned self.new))) }
+        ensures err { OnErr result (entries_left (state_at (owned self.old)) ≢ []) }
     {
+        if let Some(value) = self.pending.take() {
+            return Ok(Some(value));
+        }
         loop {
-            if let Some(value) = self.pending.take() {
-                return Ok(Some(value));
-            }
             match self.next.get() {
-                Some(id) => self.descend::<K>(id)?,
+                Some(id) => {
+                    if let Some(value) = self.descend::<K>(id)? {
+                        return Ok(Some(value));
+                    }
+                }
                 None => {
                     if !self.back::<K>() {
                         return Ok(None);
@@ -117,11 +133,11 @@ impl<K: Bytes, V> Model for IntoWalk<K, V> {
     ghost Value = { List (List ℕ × V) };
 
     ghost use Rattle.patricia_model.specs.Internal.WalkStates.{entries_left};
-    ghost use Rattle.patricia_walks.specs.Internal.Positions.{IsPosition, state_of, owned};
+    ghost use Rattle.patricia_walks.specs.Internal.Fronts.{owned, state_at, IsFront};
 
-    ghost view = { λ w. entries_left (state_of (owned w.place)) };
+    ghost view = { λ w. entries_left (state_at (owned w.place)) };
 
-    ghost invariant = { λ w. IsPosition K.item (owned w.place) };
+    ghost invariant = { λ w. IsFront K.item (owned w.place) };
 }
 
 impl<K: Bytes, V: Drop> IntoWalk<K, V> {
@@ -137,6 +153,7 @@ impl<K: Bytes, V: Drop> IntoWalk<K, V> {
             place: OwnedTraversal {
                 arena,
                 path: Vec::new(alloc),
+                front: 0,
                 pending,
                 next,
                 stack: Vec::new(alloc),

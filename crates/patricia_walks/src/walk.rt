@@ -10,8 +10,8 @@ ghost use Rattle.patricia_model.specs.Walks.{YieldsOrErr};
 ghost use Rattle.patricia_nodes.specs.Internal.Plans.{IsWellFormed, siblings_of, entries_of};
 ghost use Rattle.patricia_nodes.specs.Internal.Plans.{siblings_at};
 ghost use Rattle.patricia_nodes.specs.Internal.Places.{entries_below};
-ghost use Rattle.patricia_walks.specs.Internal.Positions.{IsTop, state_of, HasPassed};
-ghost use Rattle.patricia_walks.specs.Internal.Fronts.{lent, IsTraversal, Moves};
+ghost use Rattle.patricia_walks.specs.Internal.Positions.{IsTop, HasPassed};
+ghost use Rattle.patricia_walks.specs.Internal.Fronts.{lent, state_at, IsFront, Moves};
 
 mod reading;
 mod skipping;
@@ -44,8 +44,8 @@ struct Traversal<'a, V> {
 impl<'a, V> Traversal<'a, V> {
     // Ends the walk.
     fn finish<K: Bytes>(&mut self)
-        ensures left { entries_left (state_of (lent self.new)) ≡ [] }
-        ensures place { IsTraversal K.item self.new }
+        ensures left { entries_left (state_at (lent self.new)) ≡ [] }
+        ensures place { IsFront K.item (lent self.new) }
     {
         self.path.clear();
         self.front = 0;
@@ -57,18 +57,20 @@ impl<'a, V> Traversal<'a, V> {
     // Advances to the node that is next, and returns its value. Its children are next then, and its
     // siblings wait; or its siblings are next, where it has no children.
     fn descend<K: Bytes>(&mut self, id: NodeId) -> Result<Option<&'a V>, AllocError>
-        requires place { IsTraversal K.item self.old }
-        requires taken { self.old.pending ≡ None }
+        requires place { IsFront K.item (lent self.old) }
+        requires taken { (lent self.old).pending ≡ None }
         requires next { self.old.next ≡ Some id }
-        ensures { IfOk result (λ value. Moves K.item self.old (option_copied value) self.new) }
+        ensures { IfOk result (λ value.
+            Moves K.item (lent self.old) (option_copied value) (lent self.new)) }
     {
         let nodes = &self.arena.nodes;
-        let front = self.front;
-        self.path.truncate(front);
-        self.path.extend_from_slice(nodes.label(id))?;
+        let label = nodes.label(id);
         let child = nodes.child(id);
         let sibling = nodes.sibling(id);
         let value = nodes.value(id);
+        let front = self.front;
+        self.path.truncate(front);
+        self.path.extend_from_slice(label)?;
         if child.get().is_none() {
             self.next = sibling;
             return Ok(value);
@@ -81,13 +83,12 @@ impl<'a, V> Traversal<'a, V> {
 
     // Goes back to the siblings that wait last, if any wait. The path stays.
     fn back<K: Bytes>(&mut self) -> bool
-        requires place { IsTraversal K.item self.old }
-        requires taken { self.old.pending ≡ None }
+        requires place { IsFront K.item (lent self.old) }
+        requires taken { (lent self.old).pending ≡ None }
         requires over { self.old.next ≡ None }
-        ensures step { IsTrue result → Moves K.item self.old None self.new }
-        ensures over { result ≡ false → entries_left (state_of (lent self.old)) ≡ [] }
+        ensures step { IsTrue result → Moves K.item (lent self.old) None (lent self.new) }
+        ensures over { result ≡ false → entries_left (state_at (lent self.old)) ≡ [] }
         ensures stays { result ≡ false → lent self.new ≡ lent self.old }
-        ensures place { result ≡ false → IsTraversal K.item self.new }
     {
         let Some((front, siblings)) = self.stack.pop() else {
             return false;
@@ -99,13 +100,13 @@ impl<'a, V> Traversal<'a, V> {
 
     // Passes the entries that begin with the first bytes of the path, which are whole items.
     fn skip<K: Bytes>(&mut self, len: usize)
-        requires place { IsTraversal K.item self.old }
+        requires place { IsFront K.item (lent self.old) }
         requires within { len ≤ length self.old.path.items }
         requires valid { IsValid K.item (take len self.old.path.items) }
-        ensures place { IsTraversal K.item self.new }
+        ensures place { IsFront K.item (lent self.new) }
         ensures path { self.new.path.items ≡ self.old.path.items }
         ensures passed { HasPassed (take len self.old.path.items)
-            (entries_left (state_of (lent self.old))) (entries_left (state_of (lent self.new))) }
+            (entries_left (state_at (lent self.old))) (entries_left (state_at (lent self.new))) }
     {
         self.pending = None;
         if self.front < len && self.next.get().is_some() {
@@ -122,11 +123,11 @@ impl<'a, V> Traversal<'a, V> {
 
     // Takes the next value, whose key is then the path.
     fn seek<K: Bytes>(&mut self) -> Result<Option<&'a V>, AllocError>
-        requires { IsTraversal K.item self.old }
-        ensures place { OnOk result (IsTraversal K.item self.new) }
-        ensures ok { IfOk result (λ found. TakesEntry (state_of (lent self.old))
-            (option_copied found) (state_of (lent self.new))) }
-        ensures err { OnErr result (entries_left (state_of (lent self.old)) ≢ []) }
+        requires { IsFront K.item (lent self.old) }
+        ensures place { OnOk result (IsFront K.item (lent self.new)) }
+        ensures ok { IfOk result (λ found. TakesEntry (state_at (lent self.old))
+            (option_copied found) (state_at (lent self.new))) }
+        ensures err { OnErr result (entries_left (state_at (lent self.old)) ≢ []) }
     {
         if let Some(value) = self.pending.take() {
             return Ok(Some(value));
@@ -163,12 +164,11 @@ impl<'a, K: Bytes, V> Model for Walk<'a, K, V> {
     ghost Value = { List (List ℕ × V) };
 
     ghost use Rattle.patricia_model.specs.Internal.WalkStates.{entries_left};
-    ghost use Rattle.patricia_walks.specs.Internal.Positions.{state_of};
-    ghost use Rattle.patricia_walks.specs.Internal.Fronts.{lent, IsTraversal};
+    ghost use Rattle.patricia_walks.specs.Internal.Fronts.{lent, state_at, IsFront};
 
-    ghost view = { λ w. entries_left (state_of (lent w.place)) };
+    ghost view = { λ w. entries_left (state_at (lent w.place)) };
 
-    ghost invariant = { λ w. IsTraversal K.item w.place };
+    ghost invariant = { λ w. IsFront K.item (lent w.place) };
 }
 
 impl<'a, K: Bytes, V> Walk<'a, K, V> {

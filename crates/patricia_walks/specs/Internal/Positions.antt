@@ -7,7 +7,6 @@ use Rattle.patricia_model.specs.Prefixes.{under, outside}
 use Rattle.patricia_model.specs.Internal.WalkStates.{WalkState, IsWalkState, IsStep, IsWithinAll}
 use Rattle.patricia_store.specs.Internal.Nodes.{Node}
 use Rattle.patricia_nodes.specs.declared.arena.NodeArena.{NodeArena}
-use Rattle.patricia_walks.specs.declared.into_walk.OwnedTraversal.{OwnedTraversal}
 use Rattle.patricia_nodes.specs.Internal.Plans.{siblings_at, count, plan_at, IsPlan}
 
 -- the siblings that wait, and more behind so many of the bytes, where there are any
@@ -26,16 +25,6 @@ pub record Position (V : Type 0) : Type 0 where
   pub stack : List (ℕ × Option ℕ)
 
 module _ {V : Type 0} where
-  -- the place of a walk that owns the nodes
-  abbrev pub owned : OwnedTraversal V → Position V
-  owned p = record {
-    nodes = p.arena.nodes.items;
-    path = p.path.items;
-    pending = p.pending;
-    next = p.next;
-    stack = p.stack.items;
-  }
-
   -- the siblings that wait
   abbrev pub siblings_waiting : List (Node V) → List (ℕ × Option ℕ) → List (ℕ × Siblings V)
   siblings_waiting nodes stack = map (λ f. (f.0, siblings_at nodes f.1)) stack

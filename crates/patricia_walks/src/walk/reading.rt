@@ -26,8 +26,7 @@ impl<'a, K: Bytes, V> Model for ReadCursor<'a, K, V> {
     ghost use Rattle.patricia_model.specs.Cursors.{ReadCursorView};
     ghost use Rattle.patricia_model.specs.Internal.Codes.{read_cursor_view_code};
     ghost use Rattle.patricia_model.specs.Internal.WalkStates.{entries_left};
-    ghost use Rattle.patricia_walks.specs.Internal.Positions.{state_of};
-    ghost use Rattle.patricia_walks.specs.Internal.Fronts.{lent, IsTraversal};
+    ghost use Rattle.patricia_walks.specs.Internal.Fronts.{lent, state_at, IsFront};
 
     ghost Value = { ReadCursorView V };
 
@@ -35,10 +34,10 @@ impl<'a, K: Bytes, V> Model for ReadCursor<'a, K, V> {
 
     ghost view = { λ c. record {
       at = option_map (λ v. (c.place.path.items, v.now)) c.value;
-      left = entries_left (state_of (lent c.place));
+      left = entries_left (state_at (lent c.place));
     } };
 
-    ghost invariant = { λ c. IsTraversal K.item c.place };
+    ghost invariant = { λ c. IsFront K.item (lent c.place) };
 }
 
 impl<'a, K: Bytes, V> ReadCursor<'a, K, V> {

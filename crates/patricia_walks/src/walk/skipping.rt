@@ -3,10 +3,10 @@ ghost use Rattle.std.specs.Prelude.{◌≡◌, ◌++◌, [], length, Some, None,
 ghost use Rattle.std.specs.Option.{option_copied};
 ghost use Rattle.patricia_model.specs.Ranges.{from};
 ghost use Rattle.patricia_model.specs.Siblings.{own, IsCanonical};
+ghost use Rattle.patricia_model.specs.Internal.WalkStates.{entries_left};
 ghost use Rattle.patricia_nodes.specs.Internal.Plans.{IsWellFormed, siblings_of, entries_of};
-ghost use Rattle.patricia_walks.specs.Internal.Fronts.{lent, IsTraversal};
+ghost use Rattle.patricia_walks.specs.Internal.Fronts.{lent, seen, state_at, IsFront};
 ghost use Rattle.patricia_walks.specs.Internal.Skips.{IsTowards, Approaches, HasReached};
-ghost use Rattle.patricia_walks.specs.Internal.Skips.{entries_ahead};
 
 use super::{Traversal, Walk};
 use crate::waiting::push_siblings;
@@ -22,15 +22,16 @@ impl<'a, V> Traversal<'a, V> {
     // sibling where the label comes before that. Else no entry that is left comes before the key,
     // and the walk stays.
     fn approach<K: Bytes>(&mut self, id: NodeId, key: &[u8]) -> Result<bool, AllocError>
-        requires towards { IsTowards K.item key.now (lent self.old) }
+        requires towards { IsTowards K.item key.now (seen (lent self.old)) }
         requires front { self.old.front ≡ length self.old.path.items }
-        requires taken { self.old.pending ≡ None }
+        requires taken { (lent self.old).pending ≡ None }
         requires next { self.old.next ≡ Some id }
         ensures front { OnOk result (self.new.front ≡ length self.new.path.items) }
         ensures step { IfOk result (λ moved. moved ≡ true
-            → Approaches K.item key.now (lent self.old) (lent self.new)) }
+            → Approaches K.item key.now (seen (lent self.old)) (seen (lent self.new))) }
         ensures over { IfOk result (λ moved. moved ≡ false
-            → (lent self.new ≡ lent self.old) × HasReached K.item key.now (lent self.old)) }
+            → (lent self.new ≡ lent self.old)
+            × HasReached K.item key.now (seen (lent self.old))) }
     {
         let nodes = &self.arena.nodes;
         let label = nodes.label(id);
@@ -53,12 +54,12 @@ impl<'a, V> Traversal<'a, V> {
 
     // Goes from the start of a walk to the first entry that does not come before the key.
     fn skip_to<K: Bytes>(&mut self, key: &[u8]) -> Result<(), AllocError>
-        requires place { IsTraversal K.item self.old }
+        requires place { IsFront K.item (lent self.old) }
         requires path { self.old.path.items ≡ [] }
         requires stack { self.old.stack.items ≡ [] }
-        ensures place { OnOk result (IsTraversal K.item self.new) }
-        ensures left { OnOk result
-            (entries_ahead (lent self.new) ≡ from key.now (entries_ahead (lent self.old))) }
+        ensures place { OnOk result (IsFront K.item (lent self.new)) }
+        ensures left { OnOk result (entries_left (state_at (lent self.new))
+            ≡ from key.now (entries_left (state_at (lent self.old)))) }
     {
         loop {
             if self.path.len() >= key.len() {

@@ -1,12 +1,13 @@
 use Rattle.std.proofs.Common.{◌≢◌, [], sym, subst, ◌∙◌}
 use Rattle.patricia_model.proofs.WalkLemmas.{on_err}
-use Rattle.patricia_walks.proofs.PositionLemmas.{position_filled}
+use Rattle.patricia_walks.specs.Internal.Fronts.{owned}
+use Rattle.patricia_walks.proofs.FrontLemmas.{front_filled}
 use Rattle.patricia_walks.proofs.into_walk.OwnedTraversal.seek.Goals as goal
 
-pub returns-in_err-descend-in-Some-get-clause-err :
-    goal.returns-in_err-descend-in-Some-get-clause-err
-returns-in_err-descend-in-Some-get-clause-err g c =
+pub returns-in_err-value-in-Some-get-clause-err :
+    goal.returns-in_err-value-in-Some-get-clause-err
+returns-in_err-value-in-Some-get-clause-err g c =
     on_err _
-    (subst (λ l. l ≢ []) c.loop-value.invariant.same
-    (position_filled g.K.Bytes.item _ c.in-Some-get.id c.loop-value.invariant.position
-    (sym c.get.ensures ∙ c.in-Some-get.is)))
+    (subst (λ l. l ≢ []) c.loop-id.invariant.same
+    (front_filled g.K.Bytes.item g.met.K.Bytes.lawful (owned c.loop-id.self) c.in-Some-get.id
+    c.loop-id.invariant.place c.loop-id.invariant.taken (sym c.get.ensures ∙ c.in-Some-get.is)))

@@ -1,13 +1,14 @@
-use Rattle.std.proofs.Common.{◌≡◌}
-use Rattle.patricia_model.specs.Internal.WalkStates.{entries_left, steps_left}
-use Rattle.patricia_walks.specs.Internal.Positions.{IsPosition, state_of, owned}
+use Rattle.std.proofs.Common.{◌≡◌, None}
+use Rattle.patricia_model.specs.Internal.WalkStates.{entries_left}
+use Rattle.patricia_walks.specs.Internal.Fronts.{IsFront, owned, moves_left, state_at}
 use Rattle.patricia_walks.proofs.into_walk.OwnedTraversal.seek.Given as goal
 
-abbrev pub invariant-loop-value : goal.invariant-loop-value
-invariant-loop-value g l = record {
-  position : IsPosition g.K.Bytes.item (owned l.self);
-  same : entries_left (state_of (owned l.self)) ≡ entries_left (state_of (owned l.initial.self));
+abbrev pub invariant-loop-id : goal.invariant-loop-id
+invariant-loop-id g l = record {
+  place : IsFront g.K.Bytes.item (owned l.self);
+  taken : (owned l.self).pending ≡ None;
+  same : entries_left (state_at (owned l.self)) ≡ entries_left (state_at (owned l.fn.self));
 }
 
-abbrev pub decreases-loop-value : goal.decreases-loop-value
-decreases-loop-value g l = steps_left (state_of (owned l.self))
+abbrev pub decreases-loop-id : goal.decreases-loop-id
+decreases-loop-id g l = moves_left (owned l.self)

@@ -2,7 +2,7 @@ use Rattle.std.proofs.Common.{◌≡◌, ◌-◌, ◌≤◌, [], ◌∷◌, ◌+
 use Rattle.std.proofs.Common.{◌⊎◌, inl, inr}
 use Rattle.std.specs.List.{slice_get}
 use Rattle.std.specs.Option.{option_copied}
-use Rattle.patricia_walks.specs.Internal.Fronts.{lent}
+use Rattle.patricia_walks.specs.Internal.Fronts.{lent, seen}
 use Rattle.patricia_walks.proofs.FrontLemmas.{pass_next, passed_next, stack_none}
 use Rattle.patricia_walks.proofs.PassLemmas.{pass_last, ended_none, ended_below}
 use Rattle.patricia_nodes.proofs.LoanLemmas.{some_of}
@@ -18,15 +18,7 @@ loop-front-init g c =
       | else-self-len-via-else-self-len w ↦ inr w.if-self-len.false
     ] in
     record {
-      passing = pass_next g.K.Bytes.item g.met.K.Bytes.lawful c.args.len c.args.self.now
-          (record {
-            arena = c.args.self.now.arena;
-            path = c.args.self.now.path;
-            front = c.args.self.now.front;
-            pending = _;
-            next = _;
-            stack = c.args.self.now.stack;
-          }) c.requires.place refl refl refl refl c.none-self.ensures long;
+      passing = pass_next g.K.Bytes.item g.met.K.Bytes.lawful c.args.len _ _ c.requires.place refl refl refl refl c.none-self.ensures long;
       none = c.none-self.ensures;
       within = c.requires.place.within;
     }
@@ -34,15 +26,7 @@ loop-front-init g c =
 pub returns-then-is_some-clause-passed : goal.returns-then-is_some-clause-passed
 returns-then-is_some-clause-passed g c =
     let next = some_of c.get.result (sym c.if-is_some.ensures) in
-    (passed_next g.K.Bytes.item g.met.K.Bytes.lawful c.args.len c.args.self.now
-    (record {
-      arena = c.args.self.now.arena;
-      path = c.args.self.now.path;
-      front = c.args.self.now.front;
-      pending = _;
-      next = c.args.self.now.next;
-      stack = c.args.self.now.stack;
-    }) c.requires.place refl refl refl refl next.0 c.requires.valid c.requires.within c.if-self-len.true
+    (passed_next g.K.Bytes.item g.met.K.Bytes.lawful c.args.len _ _ c.requires.place refl refl refl refl next.0 c.requires.valid c.requires.within c.if-self-len.true
     (sym c.get.ensures ∙ next.1) refl refl).1
 
 pub returns-then-front-len-clause-passed : goal.returns-then-front-len-clause-passed
@@ -51,7 +35,7 @@ returns-then-front-len-clause-passed g c =
     let stack = s.stack.items in
     let last : slice_get stack (length stack - 1) ≡ Some c.in-Some.field-0.now =
     ap (λ l. slice_get l (length l - 1)) (sym c.deref.ensures.value) ∙ sym c.last.ensures.value ∙ ap option_copied c.in-Some.is in
-    ended_below g.K.Bytes.item g.met.K.Bytes.lawful c.args.len (lent c.args.self.now) (lent s)
+    ended_below g.K.Bytes.item g.met.K.Bytes.lawful c.args.len (seen (lent c.args.self.now)) (seen (lent s))
     (take (length stack - 1) stack) _ _ c.loop-front.invariant.passing c.requires.valid c.requires.within
     (stack_none s.front s.path.items s.next stack c.loop-front.invariant.none ∙ last_split stack c.in-Some.field-0.now last)
     c.if-front-len.true
@@ -65,7 +49,7 @@ loop-front-preserved g c =
     let left = c.pop.ensures.rest ∙ ap (λ n. take (n - 1) stack) c.loop-front.self.stack.ok.0 in
     let none = c.loop-front.invariant.none in
     record {
-      passing = pass_last g.K.Bytes.item g.met.K.Bytes.lawful c.args.len (lent c.args.self.now) (lent s) _ _ _
+      passing = pass_last g.K.Bytes.item g.met.K.Bytes.lawful c.args.len (seen (lent c.args.self.now)) (seen (lent s)) _ _ _
           c.loop-front.invariant.passing c.if-front-len.false
           (stack_none s.front s.path.items s.next stack none ∙ last_split stack c.in-Some.field-0.now last
           ∙ ap (λ l. l ++ c.in-Some.field-0.now ∷ [])
@@ -80,5 +64,5 @@ returns-clause-passed g c =
     let stack = s.stack.items in
     let none : slice_get stack (length stack - 1) ≡ None =
     ap (λ l. slice_get l (length l - 1)) (sym c.deref.ensures.value) ∙ sym c.last.ensures.value ∙ ap option_copied c.in_default.is in
-    ended_none g.K.Bytes.item g.met.K.Bytes.lawful c.args.len (lent c.args.self.now) (lent s)
+    ended_none g.K.Bytes.item g.met.K.Bytes.lawful c.args.len (seen (lent c.args.self.now)) (seen (lent s))
     c.loop-front.invariant.passing (stack_none s.front s.path.items s.next stack c.loop-front.invariant.none ∙ last_none stack none)

@@ -1,11 +1,11 @@
 use Rattle.std.proofs.Common.{◌≡◌, ◌≤◌, None, length}
-use Rattle.patricia_walks.specs.Internal.Fronts.{lent}
+use Rattle.patricia_walks.specs.Internal.Fronts.{lent, seen}
 use Rattle.patricia_walks.proofs.PassLemmas.{IsPassing}
 use Rattle.patricia_walks.proofs.walk.Traversal.skip.Given as goal
 
 abbrev pub invariant-loop-front : goal.invariant-loop-front
 invariant-loop-front g l = record {
-  passing : IsPassing g.K.Bytes.item l.len (lent l.fn.self) (lent l.self);
+  passing : IsPassing g.K.Bytes.item l.len (seen (lent l.fn.self)) (seen (lent l.self));
   none : l.self.next ≡ None;
   within : l.self.front ≤ length l.self.path.items;
 }

@@ -1,9 +1,9 @@
 use Rattle.std.proofs.Common.{refl, ap, ◌++◌, ◌∙◌}
 use Rattle.patricia_nodes.proofs.NodeVecLemmas.{node_there}
 use Rattle.patricia_nodes.proofs.SeekLemmas.{head_within}
-use Rattle.patricia_walks.specs.declared.walk.Traversal.{Traversal}
+use Rattle.patricia_walks.specs.Internal.Fronts.{FrontPosition, lent}
 use Rattle.patricia_walks.specs.Internal.Skips.{entries_ahead}
-use Rattle.patricia_walks.proofs.FrontLemmas.{lent_at_end, plain, traversal_at_end}
+use Rattle.patricia_walks.proofs.FrontLemmas.{seen_at_end, plain, front_at_end}
 use Rattle.patricia_walks.proofs.PositionLemmas.{position_top, left_top}
 use Rattle.patricia_walks.proofs.walk.Walk.below.Goals as goal
 
@@ -15,15 +15,15 @@ invariant_of-result g c =
     (c.in_ok-extend_from_slice.ensures.items ∙ ap (λ p. p ++ c.args.front.now)
     c.in_ok-path.ensures.items) ∙ ap (λ l. c.args.front.now ++ l) (c.label-label.ensures _ there.1)
     in
-    traversal_at_end g.K.Bytes.item
-    (record {
+    front_at_end g.K.Bytes.item
+    (lent (record {
       arena = c.args.arena;
       path = c.extend_from_slice-2.new.self;
       front = c.len.result;
       pending = c.value.result;
       next = c.child.result;
       stack = c.new.result;
-    }) (c.len.ensures ∙ c.extend_from_slice-2.new.self.ok.0)
+    })) (c.len.ensures ∙ c.extend_from_slice-2.new.self.ok.0)
     (position_top g.K.Bytes.item c.args.arena.now c.args.front.now c.args.top there.0 c.requires there.1 _ refl path
     (c.child.ensures.node _ there.1) c.new.ensures.items)
 
@@ -35,14 +35,14 @@ returns g c =
     (c.in_ok-extend_from_slice.ensures.items ∙ ap (λ p. p ++ c.args.front.now)
     c.in_ok-path.ensures.items) ∙ ap (λ l. c.args.front.now ++ l) (c.label-label.ensures _ there.1)
     in
-    let p : Traversal g.row.V.Denot = record {
+    let p : FrontPosition g.row.V.Denot = lent (record {
       arena = c.args.arena;
       path = c.extend_from_slice-2.new.self;
       front = c.len.result;
       pending = c.value.result;
       next = c.child.result;
       stack = c.new.result;
-    } in
-    ap entries_ahead (lent_at_end p (c.len.ensures ∙ c.extend_from_slice-2.new.self.ok.0))
+    }) in
+    ap entries_ahead (seen_at_end p (c.len.ensures ∙ c.extend_from_slice-2.new.self.ok.0))
     ∙ left_top g.K.Bytes.item c.args.arena.now c.args.front.now c.args.top there.0
     c.requires there.1 (plain p) refl path (c.value.ensures _ there.1) (c.child.ensures.node _ there.1) c.new.ensures.items
