@@ -10,6 +10,7 @@ ghost use Rattle.patricia_model.specs.Walks.{YieldsOrErr};
 ghost use Rattle.patricia_nodes.specs.Internal.Plans.{IsWellFormed, siblings_of, entries_of};
 ghost use Rattle.patricia_walks.specs.Internal.Fronts.{owned, state_at, IsFront, Moves};
 
+use crate::path::extend_path;
 use crate::waiting::push_siblings;
 use patricia_keys::Bytes;
 use patricia_nodes::arena::NodeArena;
@@ -62,7 +63,7 @@ impl<V: Drop> OwnedTraversal<V> {
         let sibling = nodes.sibling(id);
         let front = self.front;
         self.path.truncate(front);
-        self.path.extend_from_slice(label)?;
+        extend_path(&mut self.path, label)?;
         if child.get().is_none() {
             self.next = sibling;
             return Ok(self.arena.nodes.replace_value(id, None));

@@ -5,6 +5,9 @@ ghost use Rattle.patricia_walks.specs.Internal.Positions.{with_siblings};
 use patricia_nodes::link::Link;
 use std::alloc::AllocError;
 
+// For how many there is room at first, which is for all of most trees.
+const ROOM: usize = 16;
+
 /// Lets siblings wait behind so many bytes of the path, where there are any.
 pub fn push_siblings(
     stack: &mut Vec<(usize, Link)>,
@@ -16,6 +19,9 @@ pub fn push_siblings(
 {
     if siblings.get().is_none() {
         return Ok(());
+    }
+    if stack.capacity() == 0 {
+        stack.reserve(ROOM)?;
     }
     stack.push((front, siblings))?;
     Ok(())

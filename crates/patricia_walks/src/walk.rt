@@ -16,6 +16,7 @@ ghost use Rattle.patricia_walks.specs.Internal.Fronts.{lent, state_at, IsFront, 
 mod reading;
 mod skipping;
 
+use crate::path::{ROOM, extend_path};
 use crate::waiting::push_siblings;
 use patricia_keys::Bytes;
 use patricia_nodes::arena::NodeArena;
@@ -70,7 +71,7 @@ impl<'a, V> Traversal<'a, V> {
         let value = nodes.value(id);
         let front = self.front;
         self.path.truncate(front);
-        self.path.extend_from_slice(label)?;
+        extend_path(&mut self.path, label)?;
         if child.get().is_none() {
             self.next = sibling;
             return Ok(value);
@@ -222,7 +223,7 @@ impl<'a, K: Bytes, V> Walk<'a, K, V> {
             walk ≡ entries_below front.now (siblings_at arena.now.nodes.items (Some top))) }
     {
         let label = arena.nodes.label(top);
-        let mut path = Vec::with_capacity(alloc, front.len() + label.len())?;
+        let mut path = Vec::with_capacity(alloc, ROOM.max(front.len() + label.len()))?;
         path.extend_from_slice(front)?;
         path.extend_from_slice(label)?;
         Ok(Walk {

@@ -9,6 +9,7 @@ ghost use Rattle.patricia_walks.specs.Internal.Fronts.{lent, seen, state_at, IsF
 ghost use Rattle.patricia_walks.specs.Internal.Skips.{IsTowards, Approaches, HasReached};
 
 use super::{Traversal, Walk};
+use crate::path::extend_path;
 use crate::waiting::push_siblings;
 use patricia_keys::Bytes;
 use patricia_nodes::arena::NodeArena;
@@ -39,7 +40,7 @@ impl<'a, V> Traversal<'a, V> {
         let rest = &key[front..];
         if rest.starts_with(label) {
             push_siblings(&mut self.stack, front, nodes.sibling(id))?;
-            self.path.extend_from_slice(label)?;
+            extend_path(&mut self.path, label)?;
             self.front = self.path.len();
             self.pending = nodes.value(id);
             self.next = nodes.child(id);

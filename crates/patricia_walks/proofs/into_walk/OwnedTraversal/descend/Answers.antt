@@ -35,7 +35,7 @@ returns-then-is_none g c =
     c.requires.taken c.requires.next put.1
     (ap length put.2 ∙ length-set _ _ _) (λ i k. ap (λ xs. slice_get xs i) put.2 ∙ get-set_other _ c.args.id i _ k)
     (c.label-label.ensures _ put.1)
-    (c.in_ok-extend_from_slice.ensures.items ∙ ap (λ k. k ++ c.label-label.result.now) c.truncate.ensures.items)
+    (c.in_ok-extend_path.ensures ∙ ap (λ k. k ++ c.label-label.result.now) c.truncate.ensures.items)
     c.requires.taken put.3 (sym (c.child-child.ensures.node _ put.1) ∙ none) refl
     (c.sibling-sibling.ensures.node _ put.1) refl
 
@@ -46,7 +46,7 @@ returns g c =
     c.requires.taken c.requires.next put.1
     (ap length put.2 ∙ length-set _ _ _) (λ i k. ap (λ xs. slice_get xs i) put.2 ∙ get-set_other _ c.args.id i _ k)
     (c.label-label.ensures _ put.1)
-    (c.in_ok-extend_from_slice.ensures.items ∙ ap (λ k. k ++ c.label-label.result.now) c.truncate.ensures.items)
-    c.requires.taken put.3 (c.len-self.ensures ∙ c.extend_from_slice.new.self.ok.0)
+    (c.in_ok-extend_path.ensures ∙ ap (λ k. k ++ c.label-label.result.now) c.truncate.ensures.items)
+    c.requires.taken put.3 (c.len-self.ensures ∙ c.extend_path.new.path.ok.0)
     (c.child-child.ensures.node _ put.1)
     (rw (c.sibling-sibling.ensures.node _ put.1) at c.in_ok-push_siblings.ensures.items)

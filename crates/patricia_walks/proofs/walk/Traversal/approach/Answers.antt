@@ -29,11 +29,11 @@ returns-then-starts_with-clause-step g c =
     let there = node_there _ _ (position_within g.K.Bytes.item (plain p) _ w.position c.requires.next) in
     let begun = rw (c.len-front.ensures, c.args.self.now.path.ok.0, rest_is) at c.starts_with.ensures.value in
     let yes = rw (c.label-label.ensures _ there.1) at begun in
-    λ _. approaches g.K.Bytes.item c.args.key.now p _ c.requires.front (c.len-self.ensures ∙ c.extend_from_slice.new.self.ok.0)
+    λ _. approaches g.K.Bytes.item c.args.key.now p _ c.requires.front (c.len-self.ensures ∙ c.extend_path.new.path.ok.0)
     (towards_down g.K.Bytes.item g.met.K.Bytes.lawful c.args.key.now (plain p) _ c.args.id
     there.0 w c.requires.taken c.requires.next
     there.1 refl (sym yes ∙ c.if-starts_with.true) c.label-label.result.now (c.label-label.ensures _ there.1) _ (c.len-front.ensures ∙ c.args.self.now.path.ok.0)
-    c.in_ok-extend_from_slice.ensures.items (c.value-self.ensures _ there.1)
+    c.in_ok-extend_path.ensures (c.value-self.ensures _ there.1)
     (c.child-self.ensures.node _ there.1)
     (rw (c.sibling.ensures.node _ there.1) at c.in_ok-push_siblings.ensures.items))
 

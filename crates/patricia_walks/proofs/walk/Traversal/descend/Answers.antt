@@ -31,7 +31,7 @@ returns-then-is_none g c =
     let none = sym c.get.ensures ∙ not_some c.get.result (sym c.if-is_none.ensures) in
     moves_beside g.K.Bytes.item g.met.K.Bytes.lawful _ _ c.args.id there.0 _ _ c.requires.place
     c.requires.taken c.requires.next there.1 refl (λ i k. refl) (c.label-label.ensures _ there.1)
-    (c.in_ok-extend_from_slice.ensures.items ∙ ap (λ k. k ++ c.label-label.result.now) c.truncate.ensures.items)
+    (c.in_ok-extend_path.ensures ∙ ap (λ k. k ++ c.label-label.result.now) c.truncate.ensures.items)
     c.requires.taken (c.value-value.ensures _ there.1)
     (sym (c.child-child.ensures.node _ there.1) ∙ none) refl
     (c.sibling-sibling.ensures.node _ there.1) refl
@@ -41,7 +41,7 @@ returns g c =
     let there = node_there _ _ (front_within g.K.Bytes.item (lent c.args.self.now) c.args.id c.requires.place c.requires.next) in
     moves_below g.K.Bytes.item g.met.K.Bytes.lawful _ _ c.args.id there.0 _ _ c.requires.place
     c.requires.taken c.requires.next there.1 refl (λ i k. refl) (c.label-label.ensures _ there.1)
-    (c.in_ok-extend_from_slice.ensures.items ∙ ap (λ k. k ++ c.label-label.result.now) c.truncate.ensures.items)
+    (c.in_ok-extend_path.ensures ∙ ap (λ k. k ++ c.label-label.result.now) c.truncate.ensures.items)
     c.requires.taken (c.value-value.ensures _ there.1)
-    (c.len-self.ensures ∙ c.extend_from_slice.new.self.ok.0) (c.child-child.ensures.node _ there.1)
+    (c.len-self.ensures ∙ c.extend_path.new.path.ok.0) (c.child-child.ensures.node _ there.1)
     (rw (c.sibling-sibling.ensures.node _ there.1) at c.in_ok-push_siblings.ensures.items)
