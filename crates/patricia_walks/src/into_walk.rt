@@ -10,11 +10,11 @@ ghost use Rattle.patricia_model.specs.Walks.{YieldsOrErr};
 ghost use Rattle.patricia_nodes.specs.Internal.Plans.{IsWellFormed, siblings_of, entries_of};
 ghost use Rattle.patricia_walks.specs.Internal.Fronts.{owned, state_at, IsFront, Moves};
 
-use crate::path::extend_path;
 use crate::waiting::push_siblings;
 use patricia_keys::Bytes;
 use patricia_nodes::arena::NodeArena;
 use patricia_nodes::link::{Link, NodeId};
+use patricia_nodes::path::extend_path;
 use std::alloc::{AllocError, Global};
 use std::iter::FusedIterator;
 use std::marker::{Model, PhantomData};

@@ -16,11 +16,11 @@ ghost use Rattle.patricia_walks.specs.Internal.Fronts.{lent, state_at, IsFront, 
 mod reading;
 mod skipping;
 
-use crate::path::{ROOM, extend_path};
 use crate::waiting::push_siblings;
 use patricia_keys::Bytes;
 use patricia_nodes::arena::NodeArena;
 use patricia_nodes::link::{Link, NodeId};
+use patricia_nodes::path::{ROOM, extend_path};
 pub use reading::ReadCursor;
 use std::alloc::{AllocError, Global};
 use std::iter::FusedIterator;

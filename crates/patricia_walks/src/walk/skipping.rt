@@ -9,11 +9,11 @@ ghost use Rattle.patricia_walks.specs.Internal.Fronts.{lent, seen, state_at, IsF
 ghost use Rattle.patricia_walks.specs.Internal.Skips.{IsTowards, Approaches, HasReached};
 
 use super::{Traversal, Walk};
-use crate::path::extend_path;
 use crate::waiting::push_siblings;
 use patricia_keys::Bytes;
 use patricia_nodes::arena::NodeArena;
 use patricia_nodes::link::NodeId;
+use patricia_nodes::path::extend_path;
 use std::alloc::{AllocError, Global};
 use std::cmp::Ordering;
 use std::marker::PhantomData;
