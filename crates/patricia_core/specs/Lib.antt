@@ -1,4 +1,6 @@
+pub mod Asks
 pub mod Internal
+pub mod Pruners
 pub mod RangeWalks
 pub use Rattle.patricia_distance.specs.Edits
 pub use Rattle.patricia_keys.specs.ByteKind

@@ -22,6 +22,7 @@ mod loading;
 mod many;
 mod merging;
 mod near;
+mod pruning;
 mod ranges;
 mod whole;
 
@@ -41,6 +42,7 @@ use patricia_walks::reach::reach;
 use patricia_walks::under::{PrefixReadCursor, Under, count_under};
 use patricia_walks::value_walk::ValueWalk;
 use patricia_walks::walk::{ReadCursor, Walk};
+pub use pruning::Pruner;
 use std::alloc::{AllocError, Global};
 use std::marker::{Brand, Model, PhantomData};
 use std::mem;
