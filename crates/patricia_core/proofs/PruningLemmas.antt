@@ -19,7 +19,7 @@ use Rattle.patricia_model.proofs.CursorLemmas.{after_first}
 use Rattle.patricia_model.proofs.ListLemmas.{key_cmp-equal}
 use Rattle.patricia_model.proofs.TreeLemmas.{get_empty, get_filled, insert_empty, insert_filled, keys_map, remove_empty, remove_filled, tree_sorted}
 use Rattle.patricia_nodes.specs.Internal.Plans.{siblings_of, entries_of}
-use Rattle.patricia_walks.specs.declared.held_tree.TreeParts.{TreeParts}
+use Rattle.patricia_nodes.specs.declared.parts.TreeParts.{TreeParts}
 use Rattle.patricia_edits.specs.declared.pruning.Pruning.{Pruning}
 use Rattle.patricia_edits.specs.Internal.Prunings.{HasLeft, StandsAtEntry, FindsNext}
 use Rattle.patricia_edits.specs.Internal.Removes.{Removes}

@@ -8,7 +8,7 @@ use Rattle.patricia_model.specs.Cursors.{after}
 use Rattle.patricia_model.specs.Siblings.{own}
 use Rattle.patricia_model.specs.Trees.{map_of}
 use Rattle.patricia_nodes.specs.Internal.Plans.{siblings_of, entries_of}
-use Rattle.patricia_walks.specs.declared.held_tree.TreeParts.{TreeParts}
+use Rattle.patricia_nodes.specs.declared.parts.TreeParts.{TreeParts}
 use Rattle.patricia_edits.specs.declared.pruning.Pruning.{Pruning}
 use Rattle.patricia_edits.specs.Internal.Prunings.{HasLeft, StandsAtEntry}
 use Rattle.patricia_core.specs.Pruners.{PrunerView}

@@ -19,7 +19,7 @@ use patricia_edits::Pruning;
 use patricia_keys::Bytes;
 use patricia_nodes::arena::NodeArena;
 use patricia_nodes::link::NodeId;
-use patricia_walks::TreeParts;
+use patricia_nodes::parts::TreeParts;
 use std::alloc::AllocError;
 use std::marker::{Model, PhantomData};
 
