@@ -13,7 +13,7 @@ mod ChoiceLemmas
 mod CollectLemmas
 mod FoldLemmas
 mod MergeLemmas
-mod PackLemmas
+mod LongestLemmas
 mod VisitLemmas
 pub use Rattle.patricia_model.proofs.FilterLemmas
 pub use Rattle.patricia_model.proofs.ListLemmas

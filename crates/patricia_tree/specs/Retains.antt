@@ -1,34 +1,24 @@
 -- What a map is after a closure has chosen which of its entries stay.
 use Rattle.std.specs.Prelude.{◌≡◌, ◌++◌, ◌∷◌, ℕ, List, Bool, false, cond}
 use Rattle.std.specs.Borrow.{Bor, MutBor}
-use Rattle.std.specs.Fn.{Mut, Called}
+use Rattle.std.specs.Fn.{Mut}
 use Rattle.std.specs.List.{FoldsTo}
 use Rattle.std.specs.FinMap as map
 use Rattle.patricia_core.specs.Keys.{key_cmp}
 use Rattle.patricia_core.specs.Points.{Joins}
+pub use Rattle.patricia_core.specs.Asks.{IsAskedAtEntry}
 
 -- `call` says of a closure what it may return at a key and a loan of a value, and what it may then
 -- leave there and become
 module _ {F V : Type 0}
     (call : Mut F (Bor (List ℕ) × (MutBor V × Unit {0})) (Bool × (MutBor V × Unit {0}))) where
-  -- it was called at the bytes of the key and a loan of the value of this entry, returned `stays`,
-  -- and left a value there
-  pub record IsAskedAtEntry (f : F) (entry : List ℕ × V) (stays : Bool) (g : F) (left : V) : Type 0
-    where
-      pub key : Bor (List ℕ)
-      pub shown : MutBor V
-      pub after : MutBor V
-      pub shows : (key.now ≡ entry.0) × (shown.now ≡ entry.1)
-      pub called : Called call f (key, (shown, tt)) (stays, (after, tt)) g
-      pub leaves : after.now ≡ left
-
   -- at an entry where it returned true the map has what it left of the value, and else the entry is
   -- gone
   pub record RetainsEntry (old : F × map.FinMap key_cmp V) (entry : List ℕ × V)
       (new : F × map.FinMap key_cmp V) : Type 0 where
     pub stays : Bool
     pub left : V
-    pub asked : IsAskedAtEntry old.0 entry stays new.0 left
+    pub asked : IsAskedAtEntry call old.0 entry stays new.0 left
     pub is_new : new.1 ≡ cond stays (map.insert old.1 entry.0 left) (map.remove old.1 entry.0)
 
   -- so at all entries, in order
@@ -47,6 +37,6 @@ module _ {F V : Type 0}
     pub retained : FoldsTo RetainsEntry (f, old) done before
     pub last : F
     pub left : V
-    pub asked : IsAskedAtEntry before.0 refused false last left
+    pub asked : IsAskedAtEntry call before.0 refused false last left
     pub is_new : new ≡ map.insert before.1 refused.0 left
     pub joins : Joins item (map.keys new) refused.0

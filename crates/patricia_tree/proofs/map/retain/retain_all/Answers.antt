@@ -1,61 +1,57 @@
-use Rattle.std.proofs.Common.{◌≡◌, [], length, ap, sym, ◌∙◌, arith}
-use Rattle.std.proofs.lemmas.List.{nil_from_length}
-use Rattle.std.specs.Vec.Iter.{into_iter_items}
+use Rattle.std.proofs.Common.{◌≡◌, [], ◌∷◌, List, ℕ, refl, length, ap, sym, subst, ◌∙◌, arith}
 use Rattle.patricia_tree.proofs.AfterLemmas.{at_error}
-use Rattle.patricia_tree.proofs.PackLemmas.{unpacking_starts, unpacking_first, unpacking_on, unpacking_stops}
-use Rattle.patricia_tree.proofs.PackLemmas.{unpacking_filled, unpacking_ends}
+use Rattle.patricia_tree.proofs.ChoiceLemmas.{IsRetaining, retaining_starts, retaining_on, retaining_stops}
+use Rattle.patricia_tree.proofs.ChoiceLemmas.{retaining_filled, retaining_ends}
+use Rattle.patricia_tree.proofs.RetainLemmas.{keys_of_entries}
 use Rattle.patricia_tree.proofs.map.retain.retain_all.Goals as goal
 
-pub loop-len-init : goal.loop-len-init
-loop-len-init g c =
-    let made = c.into_iter-len-iterator.ensures.into_iter_gives in
+pub loop-pruner-init : goal.loop-pruner-init
+loop-pruner-init g c = record {
+  callable = c.requires.callable;
+  retaining = retaining_starts g.F.FnMut c.args.f c.args.pruner.now.map (keys_of_entries c.args.pruner.now.left)
+      (ap keys_of_entries c.requires.starts);
+}
+
+pub loop-pruner-preserved : goal.loop-pruner-preserved
+loop-pruner-preserved g c =
+    let found = c.advance.ensures.found c.loop-pruner-test.true in
     record {
-      callable = c.requires.callable;
-      long = omega (arith, made.1, c.args.lens.ok, ap length made.0);
-      unpacking = unpacking_starts g.F.FnMut c.args.f c.args.merger.now g.K.Bytes.item c.args.bytes.now _
-          c.requires.bytes (made.0 ∙ c.requires.lens) c.requires.valid;
+      callable = c.in_ok-retain_entry.ensures.callable;
+      retaining = retaining_on g.F.FnMut c.args.f c.args.pruner.now.map (keys_of_entries c.loop-pruner.pruner.left)
+          (keys_of_entries c.retain_entry.new.pruner.left) found.0.0 c.loop-pruner.f c.retain_entry.new.f
+          c.loop-pruner.pruner.map c.retain_entry.new.pruner.map
+          (ap keys_of_entries (found.2 ∙ ap (λ es. found.0 ∷ es) (sym c.in_ok-retain_entry.ensures.left)))
+          (λ v is. rw c.advance.ensures.map at (c.in_ok-retain_entry.ensures.retained found.0.0 v found.1 (rw c.advance.ensures.map is)))
+          c.loop-pruner.invariant.retaining;
     }
 
-pub split_at-requires : goal.split_at-requires
-split_at-requires g c =
-    (unpacking_first g.F.FnMut c.args.f c.args.merger.now g.K.Bytes.item c.loop-len.rest.now _ (into_iter_items c.next.new.self) c.in-Some.len
-    c.in-Some.ensures.steps.0 c.loop-len.f c.loop-len.merger c.loop-len.invariant.unpacking).0
-
-pub new-requires : goal.new-requires
-new-requires g c =
-    rw c.split_at.ensures.front
-    (unpacking_first g.F.FnMut c.args.f c.args.merger.now g.K.Bytes.item c.loop-len.rest.now _ (into_iter_items c.next.new.self) c.in-Some.len
-    c.in-Some.ensures.steps.0 c.loop-len.f c.loop-len.merger c.loop-len.invariant.unpacking).1
+pub loop-pruner-smaller : goal.loop-pruner-smaller
+loop-pruner-smaller g c =
+    let found = c.advance.ensures.found c.loop-pruner-test.true in
+    omega (arith, ap length found.2, ap length c.in_ok-retain_entry.ensures.left)
 
 pub returns-in_err-retain_entry-clause-stopped : goal.returns-in_err-retain_entry-clause-stopped
-returns-in_err-retain_entry-clause-stopped g c = at_error _ _
-    (unpacking_stops g.F.FnMut c.args.f c.args.merger.now g.K.Bytes.item c.loop-len.rest.now _ (into_iter_items c.next.new.self)
-    c.in-Some.len c.in-Some.ensures.steps.0 c.loop-len.f c.retain_entry.new.f c.loop-len.merger c.retain_entry.new.merger
-    (rw (c.new.ensures, c.split_at.ensures.front) at c.in_err-retain_entry.ensures.kept)
-    (rw (c.new.ensures, c.split_at.ensures.front) at c.in_err-retain_entry.ensures.joins) c.loop-len.invariant.unpacking)
+returns-in_err-retain_entry-clause-stopped g c =
+    let found = c.advance.ensures.found c.loop-pruner-test.true in
+    at_error _ _ (retaining_stops g.F.FnMut c.args.f c.args.pruner.now.map g.K.Bytes.item (keys_of_entries c.loop-pruner.pruner.left)
+    (keys_of_entries c.advance.new.self.left) found.0.0 c.loop-pruner.f c.retain_entry.new.f
+    c.loop-pruner.pruner.map c.retain_entry.new.pruner.map (ap keys_of_entries found.2)
+    (λ v is. rw c.advance.ensures.map at (c.in_err-retain_entry.ensures.kept found.0.0 v found.1 (rw c.advance.ensures.map is)))
+    (c.in_err-retain_entry.ensures.joins found.0.0 found.1) c.loop-pruner.invariant.retaining)
 
 pub returns-in_err-retain_entry-clause-err_only_nonempty :
     goal.returns-in_err-retain_entry-clause-err_only_nonempty
-returns-in_err-retain_entry-clause-err_only_nonempty g c = at_error _ _
-    (unpacking_filled g.F.FnMut c.args.f c.args.merger.now g.K.Bytes.item c.loop-len.rest.now _ (into_iter_items c.next.new.self)
-    c.in-Some.len c.in-Some.ensures.steps.0 c.loop-len.f c.loop-len.merger c.loop-len.invariant.unpacking)
-
-pub loop-len-preserved : goal.loop-len-preserved
-loop-len-preserved g c = record {
-  callable = c.in_ok-retain_entry.ensures.callable;
-  long = omega (arith, c.loop-len.invariant.long, c.in-Some.ensures.steps.1, ap length c.in-Some.ensures.steps.0);
-  unpacking = unpacking_on g.F.FnMut c.args.f c.args.merger.now g.K.Bytes.item c.loop-len.rest.now _ (into_iter_items c.next.new.self)
-      c.in-Some.len c.in-Some.ensures.steps.0 c.split_at.result.1.now c.loop-len.f c.retain_entry.new.f c.loop-len.merger c.retain_entry.new.merger
-      c.split_at.ensures.back
-      (rw (c.new.ensures, c.split_at.ensures.front) at c.in_ok-retain_entry.ensures.retained)
-      c.loop-len.invariant.unpacking;
-}
+returns-in_err-retain_entry-clause-err_only_nonempty g c =
+    let found = c.advance.ensures.found c.loop-pruner-test.true in
+    at_error _ _ (retaining_filled g.F.FnMut c.args.f c.args.pruner.now.map (keys_of_entries c.loop-pruner.pruner.left)
+    (keys_of_entries c.advance.new.self.left) found.0.0 c.loop-pruner.f c.loop-pruner.pruner.map
+    (ap keys_of_entries found.2) c.loop-pruner.invariant.retaining)
 
 pub returns-clause-retained : goal.returns-clause-retained
 returns-clause-retained g c =
-    let none : into_iter_items c.loop-len.len-iterator ≡ [] =
-    nil_from_length _ (sym c.loop-len.invariant.long ∙ c.in-None.ensures.steps.0) in (
-      c.loop-len.f,
-      unpacking_ends g.F.FnMut c.args.f c.args.merger.now g.K.Bytes.item c.loop-len.rest.now _ c.loop-len.f c.loop-len.merger
-          none c.loop-len.invariant.unpacking,
+    let none = c.advance.ensures.ended c.loop-pruner-test.false in (
+      c.loop-pruner.f,
+      rw c.advance.ensures.map (retaining_ends g.F.FnMut c.args.f c.args.pruner.now.map c.loop-pruner.f c.loop-pruner.pruner.map
+          (subst (λ es. IsRetaining g.F.FnMut c.args.f c.args.pruner.now.map (keys_of_entries es) c.loop-pruner.f c.loop-pruner.pruner.map)
+          none c.loop-pruner.invariant.retaining)),
     )
