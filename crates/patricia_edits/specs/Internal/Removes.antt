@@ -77,8 +77,8 @@ RestsAround frames new false = KeepsAround frames new
 RestsAround frames new true = JoinsAbove frames new
 
 -- so it is at each key whose node this is, which was a leaf where the node above has done so
-abbrev pub LeavesAboveAt : (List ℕ → Type 0) → {V : Type 0} → NodeArena V → NodeArena V → LinkRef → ℕ
-    → Bool → Type 0
+abbrev pub LeavesAboveAt : (List ℕ → Type 0) → {V : Type 0} → NodeArena V → NodeArena V → LinkRef
+    → ℕ → Bool → Type 0
 LeavesAboveAt item old new link_ref id joined =
     (key : List ℕ) → (p : IsPlaceOf item old key link_ref id)
     → RestsAround p.1.frames new joined × (IsTrue joined → IsLeaf old id)
