@@ -33,7 +33,7 @@ use Rattle.patricia_model.proofs.JoinLemmas.{joins_root}
 use Rattle.patricia_model.proofs.PointLemmas.{nil_second}
 use Rattle.patricia_core.proofs.StoreLemmas.{stored_old}
 use Rattle.patricia_core.specs.Internal.Stores.{IsStored}
-use Rattle.patricia_core.specs.Pruners.{PrunerView}
+use Rattle.patricia_core.specs.Internal.Pruners.{PrunerView}
 use Rattle.patricia_core.specs.Internal.Pruning.{HasCome, IsPruned, all_of, left_at, key_at, node_at}
 use Rattle.patricia_core.specs.Internal.Pruning.{is_at_empty, pruner_view}
 use Rattle.patricia_core.specs.declared.tree.pruning.Spot.{Spot}

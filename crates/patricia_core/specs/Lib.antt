@@ -1,6 +1,5 @@
 pub mod Asks
 pub mod Internal
-pub mod Pruners
 pub mod RangeWalks
 pub use Rattle.patricia_distance.specs.Edits
 pub use Rattle.patricia_keys.specs.ByteKind

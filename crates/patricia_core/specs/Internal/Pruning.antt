@@ -11,7 +11,7 @@ use Rattle.patricia_nodes.specs.Internal.Plans.{siblings_of, entries_of}
 use Rattle.patricia_nodes.specs.declared.parts.TreeParts.{TreeParts}
 use Rattle.patricia_edits.specs.declared.pruning.Pruning.{Pruning}
 use Rattle.patricia_edits.specs.Internal.Prunings.{HasLeft, StandsAtEntry}
-use Rattle.patricia_core.specs.Pruners.{PrunerView}
+use Rattle.patricia_core.specs.Internal.Pruners.{PrunerView}
 use Rattle.patricia_core.specs.Internal.Stores.{IsStored}
 use Rattle.patricia_core.specs.declared.tree.pruning.Spot.{Spot}
 use Rattle.patricia_core.specs.declared.tree.pruning.Spot.TheVariants.{Start, AtEmptyKey, AtNode}

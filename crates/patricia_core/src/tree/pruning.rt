@@ -49,7 +49,7 @@ pub struct Pruner<K: Bytes, V> {
 }
 
 impl<K: Bytes, V> Model for Pruner<K, V> {
-    ghost use Rattle.patricia_core.specs.Pruners.{PrunerView};
+    ghost use Rattle.patricia_core.specs.Internal.Pruners.{PrunerView};
     ghost use Rattle.patricia_core.specs.Internal.Pruning.{pruner_view, pruner_view_code};
     ghost use Rattle.patricia_core.specs.Internal.Pruning.{IsPruned};
 

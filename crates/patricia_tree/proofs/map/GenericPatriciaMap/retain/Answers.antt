@@ -2,7 +2,7 @@ use Rattle.std.proofs.Common.{OnOk, OnErr, ◌≡◌, ◌≢◌, ◌≤◌, List
 use Rattle.std.proofs.lemmas.Result.{on_err_weaker}
 use Rattle.std.specs.FinMap as map
 use Rattle.std.specs.List.{FoldsTo}
-use Rattle.patricia_core.specs.Pruners.{PrunerView}
+use Rattle.patricia_core.specs.Internal.Pruners.{PrunerView}
 use Rattle.patricia_tree.specs.Retains.{IsRetainStopped, RetainsAll, RetainsEntry}
 use Rattle.patricia_tree.proofs.AfterLemmas.{at_error, no_entries, some_entries}
 use Rattle.patricia_tree.proofs.map.GenericPatriciaMap.retain.Goals as goal

@@ -1,5 +1,5 @@
 use Rattle.std.proofs.Common.{◌≡◌, List, ℕ, [], Some, refl, sym, ap, subst, ◌∙◌}
-use Rattle.patricia_core.specs.Pruners.{PrunerView}
+use Rattle.patricia_core.specs.Internal.Pruners.{PrunerView}
 use Rattle.patricia_core.specs.Internal.Pruning.{IsPruned, all_of, left_at}
 use Rattle.patricia_core.proofs.PruningLemmas.{come_left, goes_to_empty, goes_to_node}
 use Rattle.patricia_core.proofs.tree.pruning.Pruner.advance.Goals as goal

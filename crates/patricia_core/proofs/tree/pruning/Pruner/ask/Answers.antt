@@ -1,7 +1,7 @@
 use Rattle.std.proofs.Common.{◌≡◌, List, ℕ, [], Some, None, refl, sym, ap, subst, ◌∙◌}
 use Rattle.patricia_model.specs.Cursors.{after}
 use Rattle.patricia_core.specs.Asks.{IsAskedAtEntry}
-use Rattle.patricia_core.specs.Pruners.{PrunerView}
+use Rattle.patricia_core.specs.Internal.Pruners.{PrunerView}
 use Rattle.patricia_core.specs.Internal.Pruning.{IsPruned, all_of, left_at, pruner_view}
 use Rattle.patricia_core.specs.declared.tree.pruning.Spot.TheVariants.{AtNode}
 use Rattle.patricia_core.proofs.PruningLemmas.{node_spot, empty_spot, node_asked, empty_asked, node_within}

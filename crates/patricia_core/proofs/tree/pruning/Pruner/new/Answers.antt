@@ -5,7 +5,7 @@ use Rattle.patricia_keys.specs.Keys.{key_cmp}
 use Rattle.patricia_model.specs.Trees.{map_of}
 use Rattle.patricia_model.proofs.TreeLemmas.{entries_map}
 use Rattle.patricia_nodes.specs.Internal.Plans.{siblings_of}
-use Rattle.patricia_core.specs.Pruners.{PrunerView}
+use Rattle.patricia_core.specs.Internal.Pruners.{PrunerView}
 use Rattle.patricia_core.proofs.PruningLemmas.{nodes_within}
 use Rattle.patricia_core.proofs.tree.pruning.Pruner.new.Goals as goal
 

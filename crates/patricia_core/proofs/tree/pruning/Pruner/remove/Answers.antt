@@ -3,7 +3,7 @@ use Rattle.std.specs.Prelude.{is_some}
 use Rattle.patricia_model.specs.Trees.{map_of}
 use Rattle.patricia_model.proofs.WalkLemmas.{on_err}
 use Rattle.patricia_nodes.specs.Internal.Plans.{siblings_of}
-use Rattle.patricia_core.specs.Pruners.{PrunerView}
+use Rattle.patricia_core.specs.Internal.Pruners.{PrunerView}
 use Rattle.patricia_core.specs.Internal.Pruning.{IsPruned, pruner_view}
 use Rattle.patricia_core.proofs.PruningLemmas.{some_node, empty_spot, node_kept, node_gone, node_is_removed}
 use Rattle.patricia_core.proofs.PruningLemmas.{node_would_join, node_gone_behind, empty_is_removed}
