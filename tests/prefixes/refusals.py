@@ -14,6 +14,7 @@ COMMANDS = [
     (['complete', 'names', '-n', '2'], b'foo\nba\nx\n'),
     (['near', 'names', '-k', '2'], b'fooo\nx\n'),
     (['block', 'blocked'], b'eu.ads.example.com\nmytracker.net\nCDN.tracker.net.\n'),
+    (['block', 'blocked'], b'cdn.Tracker.net\n\xff\n\n' * 100),
     (['tree', 'settings'], b'log\nlo\n'),
     (['tree', '--drop', 'settings'], b'log.level\nlog\nlog\n'),
     (['segment', 'words'], 'xapplepie\n北京大学生\n'.encode()),

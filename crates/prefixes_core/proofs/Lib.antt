@@ -1,4 +1,5 @@
 pub mod AnswerLemmas
+pub mod BlockedLemmas
 pub mod CompletionLemmas
 pub mod CountLemmas
 pub mod DrawingLemmas

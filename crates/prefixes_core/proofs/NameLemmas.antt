@@ -1,26 +1,34 @@
 -- Names of a block list, and the keys that it keeps them by.
 use Rattle.std.proofs.Common.{◌≡◌, ℕ, suc, ◌-◌, ◌+◌, ◌≤◌, inl, inr, Bool, true, false, cond, ◌||◌}
 use Rattle.std.proofs.Common.{Option, None, Some, List, [], ◌∷◌, ◌++◌, map as list_map, length}
-use Rattle.std.proofs.Common.{drop, refl, sym, ap, subst, ◌∙◌, arith}
+use Rattle.std.proofs.Common.{Bor, MatchOption, drop, get_or, refl, sym, ap, subst, ◌∙◌, arith}
 use Rattle.std.specs.Prelude.{reverse, is_some, not, Result, Ok, Err, IfOk, OnOk, OnErr}
+use Rattle.std.specs.Option.{option_map}
 use Rattle.std.specs.Ordering.{eq_by_cmp}
 use Rattle.std.specs.Cmp.Lexicographic.{nat_list_cmp_total}
 use Rattle.std.specs.FinMap as map
 use Rattle.std.specs.FinMap.{slice_cmp-IsAntisymmetric, nat_cmp-IsAntisymmetric}
 use Rattle.std.proofs.lemmas.List.{append-nil, append_assoc, reverse-reverse, reverse-append}
-use Rattle.std.proofs.lemmas.List.{length-reverse, length-append}
+use Rattle.std.proofs.lemmas.List.{get_or-map, length-reverse, length-append, length-map}
 use Rattle.std.proofs.lemmas.List.Prefix.{end_rest}
+use Rattle.std.proofs.lemmas.Simd.{map-map}
 use Rattle.patricia_tree.specs.Keys.{Begins, key_cmp}
 use Rattle.patricia_tree.specs.Points.{Has}
+use Rattle.patricia_tree.specs.Prefixes.{longest}
 use Rattle.patricia_tree.specs.Sets.{KeySet}
 use Rattle.prefixes_core.specs.Blocks.{Covers, Blocks, Passes}
-use Rattle.prefixes_core.specs.Internal.Reversed.{key_of, name_of, names_of, AreKeysOfNames}
+use Rattle.prefixes_core.specs.Internal.Reversed.{key_of, name_of, names_of}
+use Rattle.prefixes_core.specs.Internal.Reversed.{AreKeysOfNames, AreKeysFound}
+use Rattle.prefixes_core.proofs.ListLemmas.{stripped}
 use Rattle.prefixes_core.proofs.LongestLemmas.{IsLongestKey, found_has, has_found, tied_is}
-use Rattle.prefixes_core.proofs.LongestLemmas.{tied_from}
+use Rattle.prefixes_core.proofs.LongestLemmas.{tied_from, longest_part, no_part}
 
 -- the name of the key of a name is that name
 name_of-key_of : (name : List ℕ) → name_of (key_of name) ≡ name
-name_of-key_of name = ap (drop 1) (reverse-reverse (46 ∷ name))
+name_of-key_of name =
+    ap reverse (sym (stripped 46 46 (reverse name) (key_of name) (reverse-append (46 ∷ []) name)
+    refl))
+    ∙ reverse-reverse name
 
 -- a key is one byte longer than its name
 key_of-length : (name : List ℕ) → length (key_of name) ≡ suc (length name)
@@ -168,45 +176,47 @@ begins_covers name host (rest, e) =
     by (c ∷ front) f = inr (front, cc)
 
 module _ (keys : KeySet) (named_all : AreKeysOfNames keys) (host : List ℕ) where
-  -- the longest key that begins that of a host is that of the name that blocks it
-  pub blocks : (part : List ℕ) (n : ℕ) → IsLongestKey keys (key_of host) part
-      → n + length part ≡ suc (length host) → Blocks (names_of keys) host (drop n host)
-  blocks part n long size =
-      subst (λ l. Blocks (names_of keys) host l) (sym end) (record {
-        listed = listed_is keys named_all name ∙ subst (λ k. map.contains_key keys k ≡ true)
-            (sym is) long.listed;
-        covers = covers;
-        longest = λ other in_names covered.
-            let in_keys = sym (listed_is keys named_all other) ∙ in_names in
-            let short = long.longest (key_of other) in_keys (covers_begins other host covered) in
-            omega (arith, short, key_of-length other, count);
-      })
-    where
-      name : List ℕ
-      name = name_of part
+  module _ (part : List ℕ) (long : IsLongestKey keys (key_of host) part) where
+    abbrev name : List ℕ
+    name = name_of part
 
-      is : key_of name ≡ part
-      is = named_all part long.listed
+    is : key_of name ≡ part
+    is = named_all part long.listed
 
-      count : length part ≡ suc (length name)
-      count = ap length (sym is) ∙ key_of-length name
+    count : length part ≡ suc (length name)
+    count = ap length (sym is) ∙ key_of-length name
 
-      covers : Covers name host
-      covers = begins_covers name host (subst (λ k. Begins k (key_of host)) (sym is) long.begins)
+    covers : Covers name host
+    covers = begins_covers name host (subst (λ k. Begins k (key_of host)) (sym is) long.begins)
 
-      front_of : Covers name host → (front : List ℕ) × (host ≡ front ++ name)
-      front_of (inl same) = ([], same)
-      front_of (inr below) = (
-        below.0 ++ 46 ∷ [],
-        sym below.1
-            ∙ sym (append_assoc below.0 (46 ∷ []) name),
-      )
+    -- the longest key that begins that of a host is that of the name that blocks it
+    pub key_blocks : Blocks (names_of keys) host (name_of part)
+    key_blocks = record {
+      listed = listed_is keys named_all name ∙ subst (λ k. map.contains_key keys k ≡ true)
+          (sym is) long.listed;
+      covers = covers;
+      longest = λ other in_names covered.
+          let in_keys = sym (listed_is keys named_all other) ∙ in_names in
+          let short = long.longest (key_of other) in_keys (covers_begins other host covered) in
+          omega (arith, short, key_of-length other, count);
+    }
 
-      end : drop n host ≡ name
-      end =
-          let front = front_of covers in
-          let place : n ≡ length host - length name = omega (arith, size, count) in
-          ap (λ i. drop i host) place ∙ end_rest host name front.0 front.1
+    front_of : Covers name host → (front : List ℕ) × (host ≡ front ++ name)
+    front_of (inl same) = ([], same)
+    front_of (inr below) = (
+      below.0 ++ 46 ∷ [],
+      sym below.1
+          ∙ sym (append_assoc below.0 (46 ∷ []) name),
+    )
+
+    -- that name is the end of the host
+    pub blocks : (n : ℕ) → n + length part ≡ suc (length host)
+        → Blocks (names_of keys) host (drop n host)
+    blocks n size =
+        let front = front_of covers in
+        let place : n ≡ length host - length name = omega (arith, size, count) in
+        subst (Blocks (names_of keys) host)
+        (sym (ap (λ i. drop i host) place ∙ end_rest host name front.0 front.1)) key_blocks
 
   -- where no key begins that of a host, no name covers the host
   pub passes : ((q : List ℕ) → map.contains_key keys q ≡ true → Begins q (key_of host) → ⊥)
@@ -258,3 +268,40 @@ module _ {E : Type 0} (old new : KeySet) (k n : List ℕ) (named_all : AreKeysOf
       → OnErr r (names_of new ≡ names_of old)
   name_refused (Ok b) err = tt
   name_refused (Err e) err = ap names_of err
+
+module _ (keys : KeySet) (named_all : AreKeysOfNames keys) where
+  -- what is found for the key of a host
+  found_for : (key host : List ℕ) → key ≡ key_of host
+      → MatchOption (option_map (λ e. e.0) (longest key (map.entries keys)))
+      (Passes (names_of keys) host) (λ part. Blocks (names_of keys) host (name_of part))
+  found_for key host is = by (option_map (λ e. e.0) (longest key (map.entries keys))) refl
+    where
+      by : (part : Option (List ℕ))
+          → part ≡ option_map (λ e. e.0) (longest key (map.entries keys))
+          → MatchOption part (Passes (names_of keys) host)
+          (λ part. Blocks (names_of keys) host (name_of part))
+      by None none = passes keys named_all host (λ q listed begun.
+          no_part keys key none q listed (subst (Begins q) (sym is) begun))
+      by (Some part) some = key_blocks keys named_all host part
+          (subst (λ k. IsLongestKey keys k part) is (longest_part keys key part some))
+
+  -- what is found for keys
+  pub keys_found : (asked : List (Bor (List ℕ))) (found : List (Option (Bor (List ℕ))))
+      → list_map (option_map (λ key. key.now)) found
+      ≡ list_map (λ key. option_map (λ e. e.0) (longest key.now (map.entries keys))) asked
+      → AreKeysFound (names_of keys) (list_map (λ key. key.now) asked)
+      (list_map (option_map (λ key. key.now)) found)
+  keys_found asked found all =
+      let looks_up : List ℕ → Option (List ℕ) =
+      λ key. option_map (λ e. e.0) (longest key (map.entries keys)) in
+      let own = list_map (λ key. key.now) asked in
+      let same : list_map (option_map (λ key. key.now)) found ≡ list_map looks_up own =
+      all ∙ sym (map-map looks_up (λ key. key.now) asked) in
+      record {
+        as_many = ap length same ∙ length-map own looks_up;
+        each = λ i host inside is.
+            subst (λ o. MatchOption o (Passes (names_of keys) host)
+            (λ key. Blocks (names_of keys) host (name_of key)))
+            (sym (ap (λ l. get_or l i None) same ∙ get_or-map looks_up own i [] None inside))
+            (found_for (get_or own i []) host is);
+      }

@@ -12,17 +12,17 @@ use Rattle.std.specs.Option.{is_some, option_map}
 use Rattle.std.specs.Str.{IsUtf8}
 use Rattle.std.specs.declared.io.buffered.BufReader.{BufReader}
 use Rattle.std.proofs.Math.Bool.{or_assoc}
-use Rattle.std.proofs.Math.Seq.{take-suc, drop-append_seam}
+use Rattle.std.proofs.Math.Seq.{drop-append_seam}
 use Rattle.std.proofs.lemmas.Bool.{cases_Bool, cond-true, cond-false, false_from_ne_true}
 use Rattle.std.proofs.lemmas.Fn.{FoldsTo-push}
 use Rattle.std.proofs.lemmas.List.{append_assoc, append-nil, map-append, take-append-drop}
 use Rattle.std.proofs.lemmas.List.{get_or-map, length-map, length_push, length-append}
-use Rattle.std.proofs.lemmas.List.{drop-append-le}
-use Rattle.std.proofs.lemmas.List.Elements.{All-append, All-get_or, All-nil, All-push}
+use Rattle.std.proofs.lemmas.List.{drop-append-le, take_more}
+use Rattle.std.proofs.lemmas.List.Elements.{All-get_or, All-nil, All-push, All-same}
 use Rattle.memchr.specs.Find.{is_byte, Passes, NoneBefore}
 use Rattle.patricia_tree.specs.Keys.{key_cmp}
 use Rattle.patricia_tree.specs.Prefixes.{longest}
-use Rattle.prefixes_core.specs.Answers.{route_text}
+use Rattle.prefixes_core.specs.Answers.{IsFound, IsRightLine, Leaves, Writes, route_text}
 use Rattle.prefixes_core.specs.Internal.Together.{CutsLines, AnswersTogether}
 use Rattle.prefixes_core.specs.Internal.Together.{AnswersFront, TakesTogether}
 use Rattle.prefixes_core.specs.Lists.{lines_of}
@@ -47,9 +47,8 @@ first_at end (b ∷ bytes) more (suc k) inside before at =
 -- a line is cut off where such a byte is found
 pub line_cut : (end : ℕ) (bytes line : List ℕ) (k : ℕ)
     → NoneBefore (Passes (is_byte end) bytes) 0 (length bytes) k × Passes (is_byte end) bytes k
-    → line ≡ take k bytes → IsUtf8 (take k bytes)
-    → CutsLines end bytes (line ∷ []) (drop (k + 1) bytes)
-line_cut end bytes line k found is right =
+    → line ≡ take k bytes → CutsLines end bytes (line ∷ []) (drop (k + 1) bytes)
+line_cut end bytes line k found is =
     let next : suc k ≡ k + 1 = omega arith in
     let none : (i : ℕ) → i < k → (get_or bytes i 0 == end) ≡ false =
     λ i less. false_from_ne_true _ (λ same. found.0.before i (omega arith) less same) in
@@ -60,44 +59,56 @@ line_cut end bytes line k found is right =
           first_at end bytes more k found.0.high none found.1
           ∙ ap (λ l. l ∷ lines_of end (drop (suc k) bytes ++ more)) (sym is)
           ∙ ap (λ n. line ∷ lines_of end (drop n bytes ++ more)) next;
-      right = All-push IsUtf8 [] line (All-nil IsUtf8) (subst IsUtf8 (sym is) right);
     }
 
--- no line is cut off at first
-pub none_cut : (end : ℕ) (bytes : List ℕ) (lines : List (Bor (List ℕ))) → lines ≡ []
-    → CutsLines end bytes (list_map (λ line. line.now) lines) bytes
-none_cut end bytes lines none =
-    subst (λ l. CutsLines end bytes (list_map (λ line. line.now) l) bytes) (sym none) (record {
-      front = [];
-      joined = refl;
-      first = λ more. refl;
-      right = All-nil IsUtf8;
-    })
+module _ {L : Type 0} (content : L → List ℕ) where
+  -- no line is cut off at first
+  pub none_cut : (end : ℕ) (bytes : List ℕ) (lines : List L) → lines ≡ []
+      → CutsLines end bytes (list_map content lines) bytes
+  none_cut end bytes lines none =
+      subst (λ l. CutsLines end bytes (list_map content l) bytes) (sym none) (record {
+        front = [];
+        joined = refl;
+        first = λ more. refl;
+      })
 
--- one line more is
-pub cut_more : (end : ℕ) (bytes rest later : List ℕ) (lines more : List (Bor (List ℕ)))
-    (line : Bor (List ℕ)) → more ≡ lines ++ line ∷ []
-    → CutsLines end rest (line.now ∷ []) later
-    → CutsLines end bytes (list_map (λ l. l.now) lines) rest
-    → CutsLines end bytes (list_map (λ l. l.now) more) later
-cut_more end bytes rest later lines more line is one so_far =
-    let done = list_map (λ l. l.now) lines in
-    let all : list_map (λ l. l.now) more ≡ done ++ line.now ∷ [] =
-    ap (list_map (λ l. l.now)) is ∙ map-append (λ l. l.now) lines (line ∷ []) in
-    subst (λ l. CutsLines end bytes l later) (sym all) (record {
-      front = so_far.front ++ one.front;
-      joined = so_far.joined ∙ ap (λ l. so_far.front ++ l) one.joined
-          ∙ sym (append_assoc so_far.front one.front later);
-      first = λ behind.
-          so_far.first behind ∙ ap (λ l. done ++ l) (one.first behind)
-          ∙ sym (append_assoc done (line.now ∷ []) (lines_of end (later ++ behind)));
-      right = All-append IsUtf8 done (line.now ∷ []) so_far.right one.right;
-    })
+  -- one line more is
+  pub cut_more : (end : ℕ) (bytes rest later : List ℕ) (lines more : List L) (line : L)
+      → more ≡ lines ++ line ∷ [] → CutsLines end rest (content line ∷ []) later
+      → CutsLines end bytes (list_map content lines) rest
+      → CutsLines end bytes (list_map content more) later
+  cut_more end bytes rest later lines more line is one so_far =
+      let done = list_map content lines in
+      let all : list_map content more ≡ done ++ content line ∷ [] =
+      ap (list_map content) is ∙ map-append content lines (line ∷ []) in
+      subst (λ l. CutsLines end bytes l later) (sym all) (record {
+        front = so_far.front ++ one.front;
+        joined = so_far.joined ∙ ap (λ l. so_far.front ++ l) one.joined
+            ∙ sym (append_assoc so_far.front one.front later);
+        first = λ behind.
+            so_far.first behind ∙ ap (λ l. done ++ l) (one.first behind)
+            ∙ sym (append_assoc done (content line ∷ []) (lines_of end (later ++ behind)));
+      })
 
--- there are as many lines as their list has
-pub as_many : (lines more : List (Bor (List ℕ))) (line : Bor (List ℕ)) (n : ℕ)
-    → more ≡ lines ++ line ∷ [] → length lines ≤ n → length more ≤ n + 1
-as_many lines more line n is few = omega (arith, few, ap length is, length_push lines line)
+  -- there are as many lines as their list has
+  pub as_many : (lines more : List L) (line : L) (n : ℕ) → more ≡ lines ++ line ∷ []
+      → length lines ≤ n → length more ≤ n + 1
+  as_many lines more line n is few = omega (arith, few, ap length is, length_push lines line)
+
+  module _ (right : List ℕ → Type 0) where
+    -- no line is wrong at first
+    pub none_wrong : (lines : List L) → lines ≡ [] → All right (list_map content lines)
+    none_wrong lines none =
+        subst (λ l. All right (list_map content l)) (sym none) (All-nil right)
+
+    -- and none where one more is right
+    pub right_more : (lines more : List L) (line : L) → more ≡ lines ++ line ∷ []
+        → right (content line) → All right (list_map content lines)
+        → All right (list_map content more)
+    right_more lines more line is one so_far =
+        All-same right (list_map content more) (list_map content lines ++ content line ∷ [])
+        (ap (list_map content) is ∙ map-append content lines (line ∷ []))
+        (All-push right (list_map content lines) (content line) so_far one)
 
 -- no line is answered at first
 pub none_together : (style : Style) (question : Question) (lines : List (List ℕ))
@@ -106,33 +117,52 @@ none_together style question lines old none =
     subst (λ l. AnswersTogether style question l old old false) (sym none)
     (record { written = []; behind = sym (append-nil old); answers = refl })
 
-module _ (style : Style) (routes : finite.FinMap key_cmp (List ℕ)) where
-  -- one line more is routed
-  routed : (done : List (List ℕ)) (line old so_far new : List ℕ) (found one : Bool)
-      → IsUtf8 line
-      → new ≡ so_far ++ route_text style line (longest line (finite.entries routes))
-      → one ≡ is_some (longest line (finite.entries routes))
-      → AnswersTogether style (Questions.Route routes) done old so_far found
-      → AnswersTogether style (Questions.Route routes) (done ++ line ∷ []) old new (found || one)
-  routed done line old so_far new found one right writes finds before =
-      let text = route_text style line (longest line (finite.entries routes)) in
-      let question = Questions.Route routes in
+module _ (style : Style) (question : Question) where
+  -- one line more is answered, and what is asked stays
+  line_more : (done : List (List ℕ)) (line old so_far new : List ℕ) (found one : Bool)
+      → IsRightLine question line → Writes style question line so_far new
+      → IsFound question line one → Leaves question line question
+      → AnswersTogether style question done old so_far found
+      → AnswersTogether style question (done ++ line ∷ []) old new (found || one)
+  line_more done line old so_far new found one right writes finds stays before =
+      let own = writes.0 in
       record {
-        written = before.written ++ text;
-        behind = writes ∙ ap (λ l. l ++ text) before.behind
-            ∙ append_assoc old before.written text;
+        written = before.written ++ own;
+        behind = writes.1 ∙ ap (λ l. l ++ own) before.behind
+            ∙ append_assoc old before.written own;
         answers = FoldsTo-push (AnswersLine style) (answered question [] false) done
             (answered question before.written found) line
-            (answered question (before.written ++ text) (found || one)) before.answers (record {
+            (answered question (before.written ++ own) (found || one)) before.answers (record {
               right = right;
-              writes = (text, refl, refl);
+              writes = (own, refl, writes.2);
               one = one;
               finds = finds;
               found = refl;
-              leaves = refl;
+              leaves = stays;
             });
       }
 
+  -- the next one of some lines is
+  pub next_more : {L : Type 0} (content : L → List ℕ) (lines : List L) (i : ℕ) (d : L)
+      (old so_far new : List ℕ) (found one : Bool) → i < length lines
+      → IsRightLine question (content (get_or lines i d))
+      → Writes style question (content (get_or lines i d)) so_far new
+      → IsFound question (content (get_or lines i d)) one
+      → Leaves question (content (get_or lines i d)) question
+      → AnswersTogether style question (list_map content (take i lines)) old so_far found
+      → AnswersTogether style question (list_map content (take (i + 1) lines)) old new
+      (found || one)
+  next_more content lines i d old so_far new found one inside right writes finds stays before =
+      let line = get_or lines i d in
+      let more : list_map content (take (i + 1) lines)
+      ≡ list_map content (take i lines) ++ content line ∷ [] =
+      ap (list_map content) (take_more lines i d inside)
+      ∙ map-append content (take i lines) (line ∷ []) in
+      subst (λ l. AnswersTogether style question l old new (found || one)) (sym more)
+      (line_more (list_map content (take i lines)) (content line) old so_far new found one right
+      writes finds stays before)
+
+module _ (style : Style) (routes : finite.FinMap key_cmp (List ℕ)) where
   module _ (lines : List (Bor (List ℕ))) (found : List (Option (Bor (List ℕ) × Bor (List ℕ))))
       (all : list_map (option_map (λ r. (r.0.now, r.1.now))) found
       ≡ list_map (λ line. longest line.now (finite.entries routes)) lines) where
@@ -171,20 +201,17 @@ module _ (style : Style) (routes : finite.FinMap key_cmp (List ℕ)) where
     line_routed i line route old so_far new seen one inside is utf8 writes finds before =
         let next = get_or lines i line in
         let known = route_at i line route inside is in
-        let done = list_map (λ l. l.now) (take i lines) in
-        let one_more : i + 1 ≡ suc i = omega arith in
-        let more : list_map (λ l. l.now) (take (i + 1) lines) ≡ done ++ next.now ∷ [] =
-        ap (λ n. list_map (λ l. l.now) (take n lines)) one_more
-        ∙ ap (list_map (λ l. l.now)) (take-suc lines i line inside)
-        ∙ map-append (λ l. l.now) (take i lines) (next ∷ []) in
         let within : i < length (list_map (λ l. l.now) lines) =
         omega (arith, inside, length-map lines (λ l. l.now)) in
-        subst (λ l. AnswersTogether style (Questions.Route routes) l old new (seen || one))
-        (sym more) (routed done next.now old so_far new seen one
+        next_more style (Questions.Route routes) (λ l. l.now) lines i line old so_far new seen one
+        inside
         (subst IsUtf8 (get_or-map (λ l. l.now) lines i line [] inside)
-        (All-get_or IsUtf8 (list_map (λ l. l.now) lines) i [] within utf8))
-        (writes ∙ ap (λ r. so_far ++ route_text style next.now r) known)
-        (finds ∙ is_some-map (λ r. (r.0.now, r.1.now)) route ∙ ap is_some known) before)
+        (All-get_or IsUtf8 (list_map (λ l. l.now) lines) i [] within utf8)) (
+          route_text style next.now (longest next.now (finite.entries routes)),
+          writes ∙ ap (λ r. so_far ++ route_text style next.now r) known,
+          refl,
+        )
+        (finds ∙ is_some-map (λ r. (r.0.now, r.1.now)) route ∙ ap is_some known) refl before
 
 -- answers come behind those that wait
 pub together_behind : (style : Style) (question : Question) (lines : List (List ℕ))
@@ -198,23 +225,22 @@ together_behind style question lines none next old new found empty answers is = 
 }
 
 -- the first lines of bytes are cut off and answered
-pub front_answered : (style : Style) (end : ℕ) (question : Question)
-    (bytes rest none next old new : List ℕ) (lines : List (Bor (List ℕ))) (together : Together)
-    → CutsLines end bytes (list_map (λ line. line.now) lines) rest
+pub front_answered : {L : Type 0} (content : L → List ℕ) (style : Style) (end : ℕ)
+    (question : Question) (bytes rest none next old new : List ℕ) (lines : List L)
+    (together : Together) → CutsLines end bytes (list_map content lines) rest
     → length lines ≡ together.count → together.len ≡ length bytes - length rest → none ≡ []
-    → AnswersTogether style question (list_map (λ line. line.now) lines) none next
-    together.is_found
+    → AnswersTogether style question (list_map content lines) none next together.is_found
     → new ≡ old ++ next → AnswersFront style end question bytes together old new
-front_answered style end question bytes rest none next old new lines together cuts counted sized
-    empty answers is =
-    let all = list_map (λ line. line.now) lines in
+front_answered content style end question bytes rest none next old new lines together cuts
+    counted sized empty answers is =
+    let all = list_map content lines in
     let joined : length bytes ≡ length cuts.front + length rest =
     ap length cuts.joined ∙ length-append cuts.front rest in
     record {
       lines = all;
       rest = rest;
       cuts = cuts;
-      counted = length-map lines (λ line. line.now) ∙ counted;
+      counted = length-map lines content ∙ counted;
       sized = omega (arith, sized, joined);
       answers = together_behind style question all none next old new together.is_found empty
           answers is;
@@ -228,7 +254,7 @@ pub front_left : (style : Style) (end : ℕ) (question : Question) (bytes old ne
 front_left style end question bytes old new same = record {
   lines = [];
   rest = bytes;
-  cuts = none_cut end bytes [] refl;
+  cuts = record { front = []; joined = refl; first = λ more. refl };
   counted = refl;
   sized = omega arith;
   answers = record { written = []; behind = same ∙ sym (append-nil old); answers = refl };
@@ -255,19 +281,6 @@ buffer_first remaining reader =
     prepended (Some more) = (more, refl)
 
 module _ (style : Style) (end : ℕ) (question : Question) where
-  -- no line is taken
-  pub none_taken : (known : Option (List ℕ)) (old new : List ℕ) → new ≡ old
-      → IfSome known (λ bytes. TakesTogether style end question bytes known 0 old new false)
-  none_taken None old new same = tt
-  none_taken (Some bytes) old new same = record {
-    lines = [];
-    rest = bytes;
-    left_is = refl;
-    first = refl;
-    counted = refl;
-    answers = record { written = []; behind = same ∙ sym (append-nil old); answers = refl };
-  }
-
   module _ (buffer old out : List ℕ) (together : Together)
       (front : AnswersFront style end question buffer together old out) where
     -- lines at the front of a buffer are taken by dropping their bytes

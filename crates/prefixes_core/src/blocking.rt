@@ -1,9 +1,12 @@
 //! A list of names that block hosts.
 
-ghost use Rattle.std.specs.Prelude.{◌≡◌, not, IfOk, OnOk, OnErr, IfSome, IfNone};
+ghost use Rattle.std.specs.Prelude.{◌≡◌, not, map as list_map, IfOk, OnOk, OnErr};
+ghost use Rattle.std.specs.Prelude.{IfSome, IfNone};
 ghost use Rattle.std.specs.FinMap as map;
+ghost use Rattle.std.specs.List.{flat_map};
+ghost use Rattle.std.specs.Option.{option_map};
 ghost use Rattle.prefixes_core.specs.Blocks.{Blocks, Passes, folded};
-ghost use Rattle.prefixes_core.specs.Internal.Reversed.{key_of};
+ghost use Rattle.prefixes_core.specs.Internal.Reversed.{key_of, name_of, host_key, AreKeysFound};
 
 use crate::listing::without_end;
 use patricia_tree::PatriciaSet;
@@ -45,24 +48,92 @@ impl Model for BlockList {
     ghost invariant = { λ list. AreKeysOfNames list.keys };
 }
 
+// Writes a host name as names are to be compared in place of another.
+fn write_folded(name: &[u8], host: &mut Vec<u8>) -> Result<(), AllocError>
+    ensures { OnOk result (host.new.items ≡ folded name.now) }
+{
+    host.clear();
+    host.extend_from_slice(without_end(name, b'.'))?;
+    host.make_ascii_lowercase();
+    Ok(())
+}
+
 /// A host name as names are to be compared: in lower case, and without a dot at its end.
 pub fn folded(alloc: Global, name: &[u8]) -> Result<Vec<u8>, AllocError>
     ensures { IfOk result (λ name_folded. name_folded.items ≡ folded name.now) }
 {
-    let mut folded = Vec::from_slice(alloc, without_end(name, b'.'))?;
-    folded.make_ascii_lowercase();
+    let mut folded = Vec::new(alloc);
+    write_folded(name, &mut folded)?;
     Ok(folded)
 }
 
-// The bytes of a dot and the name, from the last to the first. So a name covers a host exactly
-// where its key begins that of the host.
+// Writes the key of a name in place of another: the bytes of a dot and the name, from the last to
+// the first. So a name covers a host exactly where its key begins that of the host.
+fn write_key(name: &[u8], key: &mut Vec<u8>) -> Result<(), AllocError>
+    ensures { OnOk result (key.new.items ≡ key_of name.now) }
+{
+    key.clear();
+    key.reserve(name.len() + 1)?;
+    key.extend_from_slice(name)?;
+    key.reverse();
+    key.push(b'.')?;
+    Ok(())
+}
+
+// Returns the key of a name.
 fn key_of(alloc: Global, name: &[u8]) -> Result<Vec<u8>, AllocError>
     ensures { IfOk result (λ key. key.items ≡ key_of name.now) }
 {
-    let mut key = Vec::from_slice(alloc, name)?;
-    key.reverse();
-    key.push(b'.')?;
+    let mut key = Vec::new(alloc);
+    write_key(name, &mut key)?;
     Ok(key)
+}
+
+/// Writes the name of a key in place of another.
+pub(crate) fn write_name(key: &[u8], name: &mut Vec<u8>) -> Result<(), AllocError>
+    ensures { OnOk result (name.new.items ≡ name_of key.now) }
+{
+    name.clear();
+    name.extend_from_slice(without_end(key, b'.'))?;
+    name.reverse();
+    Ok(())
+}
+
+/// Returns the keys of hosts, as these are compared, one behind the other.
+pub(crate) fn joined_keys(alloc: Global, hosts: &[&[u8]]) -> Result<Vec<u8>, AllocError>
+    ensures { IfOk result (λ keys.
+        keys.items ≡ flat_map (λ host. host_key host.now) hosts.now) }
+{
+    let mut folded = Vec::new(alloc);
+    let mut key = Vec::new(alloc);
+    let mut keys = Vec::new(alloc);
+    for host in hosts {
+        write_folded(host, &mut folded)?;
+        write_key(&folded, &mut key)?;
+        keys.extend_from_slice(&key)?;
+    }
+    Ok(keys)
+}
+
+/// Cuts such keys of hosts apart.
+pub(crate) fn cut_keys<'k>(
+    alloc: Global,
+    hosts: &[&[u8]],
+    keys: &'k [u8],
+) -> Result<Vec<&'k [u8]>, AllocError>
+    requires { keys.now ≡ flat_map (λ host. host_key host.now) hosts.now }
+    ensures { IfOk result (λ cut. list_map (λ key. key.now) cut.items
+        ≡ list_map (λ host. host_key host.now) hosts.now) }
+{
+    let mut cut = Vec::new(alloc);
+    let mut rest = keys;
+    for host in hosts {
+        let len = without_end(host, b'.').len() + 1;
+        let (key, later) = rest.split_at(len);
+        cut.push(key)?;
+        rest = later;
+    }
+    Ok(cut)
 }
 
 impl BlockList {
@@ -116,6 +187,23 @@ impl BlockList {
         let front = self.keys.get_longest_common_prefix(key)?;
         let (_, name) = host.split_at(key.len() - front.len());
         Some(name)
+    }
+
+    /// Looks up the keys of hosts side by side, and returns for each the key of the longest name
+    /// that covers the host.
+    ///
+    /// # Errors
+    ///
+    /// Out of memory for the list.
+    pub(crate) fn find_keys<'k>(
+        &self,
+        keys: &[&'k [u8]],
+    ) -> Result<Vec<Option<&'k [u8]>>, AllocError>
+        ensures { IfOk result (λ found.
+            AreKeysFound self.now (list_map (λ key. key.now) keys.now)
+            (list_map (option_map (λ key. key.now)) found.items)) }
+    {
+        self.keys.longest_many(keys)
     }
 
     /// Returns the longest name of the list that is the host or that the host is below, or `None`

@@ -10,7 +10,7 @@ ghost use Rattle.prefixes_core.specs.Internal.Together.{TakesTogether};
 ghost use Rattle.prefixes_core.specs.Lists.{lines_of};
 ghost use Rattle.prefixes_core.specs.Turns.{AnswersAll, answered, IsStoppedAt};
 
-use crate::answering::together::route_together;
+use crate::answering::together::answer_front;
 use crate::answering::{AnswerError, Question, Style};
 use crate::failure::{Failure, input_failure, line_failure, put, put_if};
 use crate::files::{combine_files, pack_file};
@@ -177,11 +177,8 @@ fn answer_together<F: Read + Drop>(
         (reader_remaining F.remaining reader.new) result.0 out.old.items out.new.items result.1) }
     ensures few { result.0 ≤ 256 }
 {
-    let Question::Route(routes) = question else {
-        return (0, false);
-    };
     let bytes = reader.buffer();
-    let together = route_together(alloc, routes, bytes, asked.end, asked.style, next, out);
+    let together = answer_front(alloc, question, bytes, asked.end, asked.style, next, out);
     reader.consume(together.len);
     (together.count as u64, together.is_found)
 }

@@ -1,20 +1,17 @@
 -- Lines that are cut off the front of bytes, and answered together.
 use Rattle.std.specs.Prelude.{◌≡◌, ◌+◌, ◌++◌, ℕ, Bool, List, length, Option, Some}
-use Rattle.std.specs.List.{All}
-use Rattle.std.specs.Str.{IsUtf8}
 use Rattle.prefixes_core.specs.Lists.{lines_of}
 use Rattle.prefixes_core.specs.Turns.{AnswersAll, answered}
 use Rattle.prefixes_core.specs.declared.answering.Question.{Question}
 use Rattle.prefixes_core.specs.declared.answering.Style.{Style}
 use Rattle.prefixes_core.specs.declared.answering.together.Together.{Together}
 
--- what is before the rest of some bytes are these lines, each of them UTF-8, whatever comes behind
+-- what is before the rest of some bytes are these lines, whatever comes behind
 pub record CutsLines (end : ℕ) (bytes : List ℕ) (lines : List (List ℕ)) (rest : List ℕ)
     : Type 0 where
   pub front : List ℕ
   pub joined : bytes ≡ front ++ rest
   pub first : (more : List ℕ) → lines_of end (bytes ++ more) ≡ lines ++ lines_of end (rest ++ more)
-  pub right : All IsUtf8 lines
 
 -- lines are answered behind a text, and what is asked stays
 pub record AnswersTogether (style : Style) (question : Question) (lines : List (List ℕ))

@@ -1,14 +1,19 @@
 //! Lines that are answered together.
 
-ghost use Rattle.std.specs.Prelude.{◌≡◌, ◌≤◌, map as list_map, IfOk, OnErr};
+ghost use Rattle.std.specs.Prelude.{◌≡◌, ◌++◌, ◌≤◌, ℕ, List, map as list_map, IfOk, OnOk, OnErr};
 ghost use Rattle.std.specs.List.{All};
+ghost use Rattle.std.specs.Option.{option_map};
 ghost use Rattle.std.specs.Str.{IsUtf8};
+ghost use Rattle.prefixes_core.specs.Answers.{block_text};
+ghost use Rattle.prefixes_core.specs.Internal.Reversed.{name_of};
 ghost use Rattle.prefixes_core.specs.Internal.Together.{AnswersTogether, AnswersFront};
+ghost use Rattle.prefixes_core.specs.declared.answering.Question.{Question};
 ghost use Rattle.prefixes_core.specs.declared.answering.Question.TheVariants as Questions;
 
-use super::Style;
-use super::writing::push_route;
-use crate::lines::cut_lines;
+use super::writing::{push_blocked, push_route};
+use super::{Question, Style};
+use crate::blocking::{BlockList, cut_keys, joined_keys, write_name};
+use crate::lines::{Line, cut_lines};
 use crate::value::Payload;
 use patricia_tree::router::Router;
 use std::alloc::{AllocError, Global};
@@ -22,6 +27,58 @@ pub(crate) struct Together {
     pub len: usize,
     /// Whether something was found for one of them.
     pub is_found: bool,
+}
+
+// What lines are asked of together.
+trait AnswersLines<'b> {
+    type Line: Line<'b>;
+
+    // what is asked
+    ghost question: { Self → Question };
+
+    // Writes the answers to lines, and returns whether something was found for one of them.
+    fn answer_lines(
+        &self,
+        alloc: Global,
+        lines: &[Self::Line],
+        style: Style,
+        out: &mut Vec<u8>,
+    ) -> Result<bool, AllocError>
+        requires { All Self.Line.IsRight (list_map Self.Line.content lines.now) }
+        ensures { IfOk result (λ found. AnswersTogether style (question self.now)
+            (list_map Self.Line.content lines.now) out.old.items out.new.items found) };
+}
+
+impl<'b> AnswersLines<'b> for Router<String, Payload> {
+    type Line = &'b str;
+
+    ghost question = { Questions.Route };
+
+    fn answer_lines(
+        &self,
+        alloc: Global,
+        lines: &[&'b str],
+        style: Style,
+        out: &mut Vec<u8>,
+    ) -> Result<bool, AllocError> {
+        route_lines(alloc, self, lines, style, out)
+    }
+}
+
+impl<'b> AnswersLines<'b> for BlockList {
+    type Line = &'b [u8];
+
+    ghost question = { Questions.Block };
+
+    fn answer_lines(
+        &self,
+        alloc: Global,
+        lines: &[&'b [u8]],
+        style: Style,
+        out: &mut Vec<u8>,
+    ) -> Result<bool, AllocError> {
+        block_lines(alloc, self, lines, style, out)
+    }
 }
 
 // Writes the routes of lines, which are looked up side by side, and returns whether there is one.
@@ -46,25 +103,69 @@ fn route_lines(
     Ok(is_found)
 }
 
-// Answers the first lines of bytes by their routes, behind the answers that wait. Where memory runs
-// out these stay as they are.
-fn route_front(
+// Writes by which name a host is blocked, whose key is found, if it is.
+fn push_by_key(
     alloc: Global,
-    routes: &Router<String, Payload>,
-    bytes: &[u8],
+    line: &[u8],
+    key: Option<&[u8]>,
+    style: Style,
+    name: &mut Vec<u8>,
+    out: &mut Vec<u8>,
+) -> Result<(), AllocError>
+    ensures { OnOk result (out.new.items ≡ out.old.items
+        ++ block_text style line.now (option_map (λ key. name_of key.now) key.entry)) }
+{
+    let Some(key) = key else {
+        return push_blocked(alloc, line, None, style, out);
+    };
+    write_name(key, name)?;
+    push_blocked(alloc, line, Some(name.as_slice()), style, out)
+}
+
+// Writes by which names hosts are blocked, which are looked up side by side, and returns whether
+// one is.
+fn block_lines(
+    alloc: Global,
+    list: &BlockList,
+    lines: &[&[u8]],
+    style: Style,
+    out: &mut Vec<u8>,
+) -> Result<bool, AllocError>
+    ensures { IfOk result (λ found. AnswersTogether style (Questions.Block list.now)
+        (list_map (λ line. line.now) lines.now) out.old.items out.new.items found) }
+{
+    let joined = joined_keys(alloc, lines)?;
+    let keys = cut_keys(alloc, lines, &joined)?;
+    let found = list.find_keys(&keys)?;
+    let mut name = Vec::new(alloc);
+    let mut is_found = false;
+    for (i, line) in lines.iter().enumerate() {
+        let key = found[i];
+        push_by_key(alloc, line, key, style, &mut name, out)?;
+        is_found |= key.is_some();
+    }
+    Ok(is_found)
+}
+
+// Answers the first lines of bytes, behind the answers that wait. Where memory runs out these stay
+// as they are.
+fn try_front<'b, A: AnswersLines<'b>>(
+    alloc: Global,
+    asked: &A,
+    bytes: &'b [u8],
     end: u8,
     style: Style,
     next: &mut Vec<u8>,
     out: &mut Vec<u8>,
 ) -> Result<Together, AllocError>
-    ensures answered { IfOk result (λ together. AnswersFront style end
-        (Questions.Route routes.now) bytes.now together out.old.items out.new.items) }
+    ensures answered { IfOk result (λ together. AnswersFront style end (A.question asked.now)
+        bytes.now together out.old.items out.new.items) }
     ensures few { IfOk result (λ together. together.count ≤ 256) }
     ensures kept { OnErr result (out.new.items ≡ out.old.items) }
 {
-    let (lines, rest) = cut_lines(alloc, bytes, end)?;
+    let (lines, rest) = cut_lines::<A::Line>(alloc, bytes, end)?;
     next.clear();
-    let is_found = route_lines(alloc, routes, &lines, style, next)?;
+    let is_found = asked.answer_lines(alloc, &lines, style, next)?;
     out.extend_from_slice(next)?;
     Ok(Together {
         count: lines.len(),
@@ -73,28 +174,52 @@ fn route_front(
     })
 }
 
-/// Answers the first lines of bytes by their routes, behind the answers that wait: those that are
-/// whole and UTF-8, up to as many as are answered together. Where memory runs out for them it
-/// answers none.
-pub(crate) fn route_together(
+// Answers the first lines of bytes, behind the answers that wait, or none where memory runs out.
+fn front<'b, A: AnswersLines<'b>>(
     alloc: Global,
-    routes: &Router<String, Payload>,
+    asked: &A,
+    bytes: &'b [u8],
+    end: u8,
+    style: Style,
+    next: &mut Vec<u8>,
+    out: &mut Vec<u8>,
+) -> Together
+    ensures answered { AnswersFront style end (A.question asked.now) bytes.now result
+        out.old.items out.new.items }
+    ensures few { result.count ≤ 256 }
+{
+    match try_front(alloc, asked, bytes, end, style, next, out) {
+        Ok(together) => together,
+        Err(_) => NONE,
+    }
+}
+
+// No line is answered.
+const NONE: Together = Together {
+    count: 0,
+    len: 0,
+    is_found: false,
+};
+
+/// Answers the first lines of bytes, behind the answers that wait, if lines are answered together
+/// for what is asked: those that are whole and right, up to as many as are answered together. Where
+/// memory runs out for them it answers none.
+pub(crate) fn answer_front(
+    alloc: Global,
+    question: &Question,
     bytes: &[u8],
     end: u8,
     style: Style,
     next: &mut Vec<u8>,
     out: &mut Vec<u8>,
 ) -> Together
-    ensures answered { AnswersFront style end (Questions.Route routes.now) bytes.now result
+    ensures answered { AnswersFront style end question.now bytes.now result
         out.old.items out.new.items }
     ensures few { result.count ≤ 256 }
 {
-    match route_front(alloc, routes, bytes, end, style, next, out) {
-        Ok(together) => together,
-        Err(_) => Together {
-            count: 0,
-            len: 0,
-            is_found: false,
-        },
+    match question {
+        Question::Route(routes) => front(alloc, routes, bytes, end, style, next, out),
+        Question::Block(list) => front(alloc, list, bytes, end, style, next, out),
+        _ => NONE,
     }
 }

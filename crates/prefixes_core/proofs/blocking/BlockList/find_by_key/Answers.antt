@@ -22,7 +22,7 @@ returns-clause-blocked c =
     let long' = subst (λ k. IsLongestKey keys k front) c.requires long in
     let short = front_short keys c.self.invariant host front long' in
     let size = host_key c.args.key.now host c.requires in
-    rw (c.split_at.ensures.back, ← c.self.view_is) (blocks keys c.self.invariant host front _ long'
+    rw (c.split_at.ensures.back, ← c.self.view_is) (blocks keys c.self.invariant host front long' _
     (omega (arith, short.0, size)))
 
 pub returns-in_err-front-clause-passes : goal.returns-in_err-front-clause-passes
