@@ -17,7 +17,7 @@ use Rattle.patricia_walks.specs.Internal.Positions.{Position, IsPosition, Advanc
 use Rattle.patricia_walks.specs.Internal.Positions.{WaitsAfter, siblings_waiting}
 use Rattle.patricia_walks.specs.Internal.Positions.{state_of, with_siblings, AllPlans}
 use Rattle.patricia_walks.specs.Internal.Fronts.{FrontPosition, next_in, stack_in, seen}
-use Rattle.patricia_walks.specs.Internal.Fronts.{state_at, IsFront, Moves}
+use Rattle.patricia_walks.specs.Internal.Fronts.{state_at, IsFrontPosition, Moves}
 use Rattle.patricia_walks.proofs.AfterLemmas.{after-last}
 use Rattle.patricia_walks.proofs.PassLemmas.{IsPassing, pass_here, pass_last, ended_below}
 use Rattle.patricia_walks.proofs.PositionLemmas.{goes_back, goes_down, steps_trans, drops_none, arrived}
@@ -98,7 +98,7 @@ module _ {V : Type 0} where
 module _ (item : List ℕ → Type 0) {V : Type 0} where
   -- it is at its end then
   pub front_end : (p : FrontPosition V) → p.path ≡ [] → p.front ≡ 0 → p.next ≡ None
-      → p.stack ≡ [] → IsFront item p
+      → p.stack ≡ [] → IsFrontPosition item p
   front_end p path front next stack = record {
     position = subst (IsPosition item) (sym (seen_none p next)) (position_end item (plain p) path next stack);
     within = rw front (omega arith);
@@ -106,7 +106,7 @@ module _ (item : List ℕ → Type 0) {V : Type 0} where
 
   -- what a walk is whose next siblings stand behind all of its path
   pub front_at_end : (p : FrontPosition V) → p.front ≡ length p.path → IsPosition item (plain p)
-      → IsFront item p
+      → IsFrontPosition item p
   front_at_end p e w = record {
     position = subst (IsPosition item) (sym (seen_at_end p e)) w;
     within = omega (arith, e);
@@ -120,7 +120,7 @@ module _ (item : List ℕ → Type 0) {V : Type 0} where
       head_within p.nodes (Some id) (plan_at p.nodes (Some id)) id last.0 refl
 
   -- and so is one that is next
-  pub front_within : (p : FrontPosition V) (id : ℕ) → IsFront item p → p.next ≡ Some id
+  pub front_within : (p : FrontPosition V) (id : ℕ) → IsFrontPosition item p → p.next ≡ Some id
       → id < length p.nodes
   front_within p id w next = elim (cases_lt p.front (length p.path)) [
     | inl less ↦ waits_within (seen p) p.front id p.stack w.position
@@ -171,7 +171,7 @@ module _ (item : List ℕ → Type 0) {V : Type 0} where
       }
 
 module _ (item : List ℕ → Type 0) (kind : IsKeyKind item) {V : Type 0} (p : FrontPosition V) (id : ℕ)
-    (w : IsFront item p) (pending : p.pending ≡ None) (next : p.next ≡ Some id) where
+    (w : IsFrontPosition item p) (pending : p.pending ≡ None) (next : p.next ≡ Some id) where
   -- a walk whose path is cut to the bytes before its next siblings
   abbrev cut : Position V
   cut = record (seen p) { path = take p.front p.path; next = p.next; stack = p.stack }
@@ -193,7 +193,7 @@ module _ (item : List ℕ → Type 0) (kind : IsKeyKind item) {V : Type 0} (p : 
   ]
 
 module _ (item : List ℕ → Type 0) (kind : IsKeyKind item) {V : Type 0} (p q : FrontPosition V) (id : ℕ)
-    (n : Node V) (l : List ℕ) (value : Option V) (w : IsFront item p) (pending : p.pending ≡ None)
+    (n : Node V) (l : List ℕ) (value : Option V) (w : IsFrontPosition item p) (pending : p.pending ≡ None)
     (next : p.next ≡ Some id) (reads : n ≡ get_or p.nodes id n)
     (long : length q.nodes ≡ length p.nodes)
     (others : (i : ℕ) → i ≢ id → slice_get q.nodes i ≡ slice_get p.nodes i) (label_is : l ≡ n.label)
@@ -280,7 +280,7 @@ module _ (item : List ℕ → Type 0) (kind : IsKeyKind item) {V : Type 0} (p q 
       few (Some i) = omega (arith, length-append p.stack ((p.front, Some i) ∷ []))
 
 module _ (item : List ℕ → Type 0) {V : Type 0} (p q : FrontPosition V) (n : ℕ) (at : Option ℕ)
-    (w : IsFront item p) (pending : p.pending ≡ None) (next : p.next ≡ None)
+    (w : IsFrontPosition item p) (pending : p.pending ≡ None) (next : p.next ≡ None)
     (stack : p.stack ≡ q.stack ++ (n, at) ∷ [])
     (nodes : q.nodes ≡ p.nodes) (path : q.path ≡ p.path)
     (taken : q.pending ≡ None) (front : q.front ≡ n) (at_is : q.next ≡ at) where
@@ -346,7 +346,7 @@ module _ (item : List ℕ → Type 0) {V : Type 0} (p q : FrontPosition V) (n : 
       by (Some i) some = stays_some i some
 
 module _ (item : List ℕ → Type 0) (kind : IsKeyKind item) {V : Type 0} (len : ℕ) (p q : FrontPosition V)
-    (w : IsFront item p) (nodes : q.nodes ≡ p.nodes)
+    (w : IsFrontPosition item p) (nodes : q.nodes ≡ p.nodes)
     (path : q.path ≡ p.path) (taken : q.pending ≡ None)
     (stack : q.stack ≡ p.stack) where
   -- siblings that are next behind enough bytes are passed, with the value
@@ -380,7 +380,7 @@ module _ (item : List ℕ → Type 0) (kind : IsKeyKind item) {V : Type 0} (len 
   -- that wait
   pub passed_next : (i : ℕ) → IsValid item (take len p.path) → len ≤ length p.path
       → p.front < len → p.next ≡ Some i → q.front ≡ p.front → q.next ≡ p.next
-      → IsFront item q
+      → IsFrontPosition item q
       × HasPassed (take len p.path) (entries_left (state_at p)) (entries_left (state_at q))
   passed_next i valid within below some front next =
       let less : p.front < length p.path = omega (arith, below, within) in

@@ -1,6 +1,7 @@
 -- The steps of a walk that goes past the entries before a key.
-use Rattle.std.proofs.Common.{◌≡◌, ◌≢◌, ℕ, ◌≤◌, List, [], ◌∷◌, ◌++◌, length, get_or, drop, true}
-use Rattle.std.proofs.Common.{false, Option, Some, None, refl, sym, ap, subst, ◌∙◌, arith}
+use Rattle.std.proofs.Common.{◌≡◌, ◌≢◌, ℕ, ◌≤◌, List, [], ◌∷◌, ◌++◌, length, get_or, drop}
+use Rattle.std.proofs.Common.{zero, suc, ◌+◌, ◌-◌, ◌<◌, true, false, Option, Some, None, refl}
+use Rattle.std.proofs.Common.{sym, ap, subst, ◌∙◌, arith}
 use Rattle.std.specs.declared.cmp.Ordering.{Ordering}
 use Rattle.std.specs.declared.cmp.Ordering.TheVariants.{Less, Equal, Greater}
 use Rattle.std.specs.Ordering.{ordering_reverse}
@@ -18,15 +19,18 @@ use Rattle.patricia_model.proofs.WalkLemmas.{waiting-snoc, waiting-longer}
 use Rattle.patricia_model.proofs.PrefixLemmas.{begins_is, begins_other, stop_below}
 use Rattle.patricia_model.proofs.RangeLemmas.{from-append, from-prefixed, from_all, from_start}
 use Rattle.patricia_model.proofs.RangeLemmas.{from_own, from_past, siblings_from, below_from}
-use Rattle.patricia_store.specs.Internal.Nodes.{Node}
+use Rattle.patricia_store.specs.Internal.Nodes.{Node, Nodes}
+use Rattle.patricia_nodes.specs.Internal.NodeVecs.{IsRun}
+use Rattle.patricia_nodes.proofs.NodeVecLemmas.{node_there}
 use Rattle.patricia_nodes.specs.Internal.Plans.{siblings_in, count, plan_at, siblings_at}
 use Rattle.patricia_nodes.proofs.PlanLemmas.{plan_is, siblings_none}
-use Rattle.patricia_nodes.proofs.SeekLemmas.{Opened, opened}
+use Rattle.patricia_nodes.proofs.SeekLemmas.{Opened, opened, byte_is}
+use Rattle.patricia_walks.proofs.AlongLemmas.{begins_otherwise, less_first}
 use Rattle.patricia_walks.specs.Internal.Positions.{Position, IsPosition, siblings_waiting}
 use Rattle.patricia_walks.specs.Internal.Positions.{with_siblings}
-use Rattle.patricia_walks.specs.Internal.Skips.{IsTowards, Approaches, HasReached, entries_ahead}
+use Rattle.patricia_walks.specs.Internal.Skips.{IsTowards, Passes, Approaches, HasReached, entries_ahead}
 use Rattle.patricia_walks.specs.Internal.Skips.{entries_waiting}
-use Rattle.patricia_walks.proofs.PositionLemmas.{goes_down}
+use Rattle.patricia_walks.proofs.PositionLemmas.{goes_down, position_within}
 
 -- a key is a front of it and what is left
 key_splits : (key path : List ℕ) → Begins path key → path ++ drop (length path) key ≡ key
@@ -237,6 +241,62 @@ turned_less a b differ not_less = by (key_cmp a b) refl
 -- a key that does not begin another is not that one
 pub begun_itself : (l k : List ℕ) → begins l k ≡ false → k ≡ l → ⊥
 begun_itself l k other same = begins_other l k other ([], append-nil l ∙ sym same)
+
+-- at another of the siblings
+abbrev pub turned_to : {V : Type 0} → Position V → ℕ → Position V
+turned_to p id = record p { next = Some id }
+
+module _ (item : List ℕ → Type 0) (kind : IsKeyKind item) (key : List ℕ) {V : Type 0} (nodes : Nodes V) where
+  -- past one of a run of siblings a walk is at the next one
+  passes_one : (from to : ℕ) (p : Position V) → p.nodes ≡ nodes.items → from < to → IsTowards item key p
+      → p.pending ≡ None → p.next ≡ Some from → drop (length p.path) key ≢ []
+      → IsRun nodes (get_or (drop (length p.path) key) 0 0) from to
+      → Approaches item key p (turned_to p (from + 1))
+  passes_one from to p same less w taken next some run =
+      let k = drop (length p.path) key in
+      let there = node_there p.nodes from (position_within item p from w.position next) in
+      let passes = run.passes from (omega arith) less there.0 (subst (λ ns. there.0 ≡ get_or ns from there.0) same there.1) in
+      let ok = node_siblings item kind key p p from there.0 w taken next there.1 refl in
+      let byte = byte_is item kind there.0.label ok.valid ok.nonempty in
+      towards_past item kind key p (turned_to p (from + 1)) from there.0 w taken next there.1 refl
+      (begins_otherwise there.0.label k ok.nonempty (λ filled same. omega (arith, passes.1, same, byte)))
+      (less_first there.0.label k some (λ filled. rw byte at passes.1))
+      refl refl (sym passes.0) refl
+
+  -- past all of them it is at the last one
+  passes_run : (k from to : ℕ) (p : Position V) → p.nodes ≡ nodes.items → to ≡ from + k → IsTowards item key p
+      → p.pending ≡ None → p.next ≡ Some from → drop (length p.path) key ≢ []
+      → IsRun nodes (get_or (drop (length p.path) key) 0 0) from to
+      → Passes item key p (turned_to p to)
+  passes_run zero from to p same e w taken next some run =
+      let here : from ≡ to = omega (arith, e) in
+      subst (Passes item key p) (ap (λ (at : Option ℕ). record p { next = at }) (next ∙ ap Some here))
+      (record { towards = w; same = refl; few = omega arith })
+  passes_run (suc k) from to p same e w taken next some run =
+      let step = passes_one from to p same (omega (arith, e)) w taken next some run in
+      let further = passes_run k (from + 1) to (turned_to p (from + 1)) same (omega (arith, e)) step.towards taken refl some
+      (record { forward = omega (arith, e); passes = λ i behind before. run.passes i (omega (arith, behind)) before }) in
+      record {
+        towards = further.towards;
+        same = further.same ∙ step.same;
+        few = omega (arith, further.few, step.less);
+      }
+
+  -- so past a run
+  pub passes_behind : (from to : ℕ) (p : Position V) → p.nodes ≡ nodes.items → IsTowards item key p
+      → p.pending ≡ None → p.next ≡ Some from → drop (length p.path) key ≢ []
+      → IsRun nodes (get_or (drop (length p.path) key) 0 0) from to
+      → Passes item key p (turned_to p to)
+  passes_behind from to p same w taken next some run =
+      passes_run (to - from) from to p same (omega (arith, run.forward)) w taken next some run
+
+  -- which ends in the vector
+  pub run_within : (from to : ℕ) (p : Position V) → p.nodes ≡ nodes.items → IsTowards item key p
+      → p.pending ≡ None → p.next ≡ Some from → drop (length p.path) key ≢ []
+      → IsRun nodes (get_or (drop (length p.path) key) 0 0) from to → to < length nodes.items
+  run_within from to p same w taken next some run =
+      let passes = passes_behind from to p same w taken next some run in
+      subst (λ ns. to < length ns) same (position_within item (turned_to p to) to passes.towards.position refl)
 
 -- at its start a walk is on the way to each key
 pub towards_start : (item : List ℕ → Type 0) (key : List ℕ) {V : Type 0} (p : Position V)

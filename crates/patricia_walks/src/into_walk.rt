@@ -8,7 +8,7 @@ ghost use Rattle.patricia_model.specs.Siblings.{own, IsCanonical};
 ghost use Rattle.patricia_model.specs.Internal.WalkStates.{entries_left, TakesEntry};
 ghost use Rattle.patricia_model.specs.Walks.{YieldsOrErr};
 ghost use Rattle.patricia_nodes.specs.Internal.Plans.{IsWellFormed, siblings_of, entries_of};
-ghost use Rattle.patricia_walks.specs.Internal.Fronts.{owned, state_at, IsFront, Moves};
+ghost use Rattle.patricia_walks.specs.Internal.Fronts.{owned, state_at, IsFrontPosition, Moves};
 
 use crate::waiting::push_siblings;
 use patricia_keys::Bytes;
@@ -39,7 +39,7 @@ impl<V: Drop> OwnedTraversal<V> {
     // Ends the walk, and drops what is left.
     fn finish<K: Bytes>(&mut self)
         ensures left { entries_left (state_at (owned self.new)) ≡ [] }
-        ensures place { IsFront K.item (owned self.new) }
+        ensures place { IsFrontPosition K.item (owned self.new) }
     {
         self.arena.clear();
         self.path.clear();
@@ -52,7 +52,7 @@ impl<V: Drop> OwnedTraversal<V> {
     // Advances to the node that is next, and takes its value. Its children are next then, and its
     // siblings wait; or its siblings are next, where it has no children.
     fn descend<K: Bytes>(&mut self, id: NodeId) -> Result<Option<V>, AllocError>
-        requires place { IsFront K.item (owned self.old) }
+        requires place { IsFrontPosition K.item (owned self.old) }
         requires taken { (owned self.old).pending ≡ None }
         requires next { self.old.next ≡ Some id }
         ensures { IfOk result (λ value. Moves K.item (owned self.old) value (owned self.new)) }
@@ -76,7 +76,7 @@ impl<V: Drop> OwnedTraversal<V> {
 
     // Goes back to the siblings that wait last, if any wait. The path stays.
     fn back<K: Bytes>(&mut self) -> bool
-        requires place { IsFront K.item (owned self.old) }
+        requires place { IsFrontPosition K.item (owned self.old) }
         requires taken { (owned self.old).pending ≡ None }
         requires over { self.old.next ≡ None }
         ensures step { IsTrue result → Moves K.item (owned self.old) None (owned self.new) }
@@ -93,8 +93,8 @@ impl<V: Drop> OwnedTraversal<V> {
 
     // Takes the next value, whose key is then the path.
     fn seek<K: Bytes>(&mut self) -> Result<Option<V>, AllocError>
-        requires { IsFront K.item (owned self.old) }
-        ensures place { OnOk result (IsFront K.item (owned self.new)) }
+        requires { IsFrontPosition K.item (owned self.old) }
+        ensures place { OnOk result (IsFrontPosition K.item (owned self.new)) }
         ensures ok { IfOk result (λ found.
             TakesEntry (state_at (owned self.old)) found (state_at (owned self.new))) }
         ensures err { OnErr result (entries_left (state_at (owned self.old)) ≢ []) }
@@ -134,11 +134,11 @@ impl<K: Bytes, V> Model for IntoWalk<K, V> {
     ghost Value = { List (List ℕ × V) };
 
     ghost use Rattle.patricia_model.specs.Internal.WalkStates.{entries_left};
-    ghost use Rattle.patricia_walks.specs.Internal.Fronts.{owned, state_at, IsFront};
+    ghost use Rattle.patricia_walks.specs.Internal.Fronts.{owned, state_at, IsFrontPosition};
 
     ghost view = { λ w. entries_left (state_at (owned w.place)) };
 
-    ghost invariant = { λ w. IsFront K.item (owned w.place) };
+    ghost invariant = { λ w. IsFrontPosition K.item (owned w.place) };
 }
 
 impl<K: Bytes, V: Drop> IntoWalk<K, V> {

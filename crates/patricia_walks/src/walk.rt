@@ -11,7 +11,7 @@ ghost use Rattle.patricia_nodes.specs.Internal.Plans.{IsWellFormed, siblings_of,
 ghost use Rattle.patricia_nodes.specs.Internal.Plans.{siblings_at};
 ghost use Rattle.patricia_nodes.specs.Internal.Places.{entries_below};
 ghost use Rattle.patricia_walks.specs.Internal.Positions.{IsTop, HasPassed};
-ghost use Rattle.patricia_walks.specs.Internal.Fronts.{lent, state_at, IsFront, Moves};
+ghost use Rattle.patricia_walks.specs.Internal.Fronts.{lent, state_at, IsFrontPosition, Moves};
 
 mod reading;
 mod skipping;
@@ -46,7 +46,7 @@ impl<'a, V> Traversal<'a, V> {
     // Ends the walk.
     fn finish<K: Bytes>(&mut self)
         ensures left { entries_left (state_at (lent self.new)) ≡ [] }
-        ensures place { IsFront K.item (lent self.new) }
+        ensures place { IsFrontPosition K.item (lent self.new) }
     {
         self.path.clear();
         self.front = 0;
@@ -58,7 +58,7 @@ impl<'a, V> Traversal<'a, V> {
     // Advances to the node that is next, and returns its value. Its children are next then, and its
     // siblings wait; or its siblings are next, where it has no children.
     fn descend<K: Bytes>(&mut self, id: NodeId) -> Result<Option<&'a V>, AllocError>
-        requires place { IsFront K.item (lent self.old) }
+        requires place { IsFrontPosition K.item (lent self.old) }
         requires taken { (lent self.old).pending ≡ None }
         requires next { self.old.next ≡ Some id }
         ensures { IfOk result (λ value.
@@ -84,7 +84,7 @@ impl<'a, V> Traversal<'a, V> {
 
     // Goes back to the siblings that wait last, if any wait. The path stays.
     fn back<K: Bytes>(&mut self) -> bool
-        requires place { IsFront K.item (lent self.old) }
+        requires place { IsFrontPosition K.item (lent self.old) }
         requires taken { (lent self.old).pending ≡ None }
         requires over { self.old.next ≡ None }
         ensures step { IsTrue result → Moves K.item (lent self.old) None (lent self.new) }
@@ -101,10 +101,10 @@ impl<'a, V> Traversal<'a, V> {
 
     // Passes the entries that begin with the first bytes of the path, which are whole items.
     fn skip<K: Bytes>(&mut self, len: usize)
-        requires place { IsFront K.item (lent self.old) }
+        requires place { IsFrontPosition K.item (lent self.old) }
         requires within { len ≤ length self.old.path.items }
         requires valid { IsValid K.item (take len self.old.path.items) }
-        ensures place { IsFront K.item (lent self.new) }
+        ensures place { IsFrontPosition K.item (lent self.new) }
         ensures path { self.new.path.items ≡ self.old.path.items }
         ensures passed { HasPassed (take len self.old.path.items)
             (entries_left (state_at (lent self.old))) (entries_left (state_at (lent self.new))) }
@@ -124,8 +124,8 @@ impl<'a, V> Traversal<'a, V> {
 
     // Takes the next value, whose key is then the path.
     fn seek<K: Bytes>(&mut self) -> Result<Option<&'a V>, AllocError>
-        requires { IsFront K.item (lent self.old) }
-        ensures place { OnOk result (IsFront K.item (lent self.new)) }
+        requires { IsFrontPosition K.item (lent self.old) }
+        ensures place { OnOk result (IsFrontPosition K.item (lent self.new)) }
         ensures ok { IfOk result (λ found. TakesEntry (state_at (lent self.old))
             (option_copied found) (state_at (lent self.new))) }
         ensures err { OnErr result (entries_left (state_at (lent self.old)) ≢ []) }
@@ -165,11 +165,11 @@ impl<'a, K: Bytes, V> Model for Walk<'a, K, V> {
     ghost Value = { List (List ℕ × V) };
 
     ghost use Rattle.patricia_model.specs.Internal.WalkStates.{entries_left};
-    ghost use Rattle.patricia_walks.specs.Internal.Fronts.{lent, state_at, IsFront};
+    ghost use Rattle.patricia_walks.specs.Internal.Fronts.{lent, state_at, IsFrontPosition};
 
     ghost view = { λ w. entries_left (state_at (lent w.place)) };
 
-    ghost invariant = { λ w. IsFront K.item (lent w.place) };
+    ghost invariant = { λ w. IsFrontPosition K.item (lent w.place) };
 }
 
 impl<'a, K: Bytes, V> Walk<'a, K, V> {

@@ -60,7 +60,7 @@ all_completed f entries prefix most first left count joined none counted few =
       ap length joined,
     )) few (λ _. inr none)
 
--- where a walk finds an entry, or has none only for want of memory, some entry is under the prefix
+-- where a walk finds an entry, or runs out of memory, some entry is under the prefix
 pub some_left : {A V E : Type 0} (f : A → List ℕ × V) (entries : List (List ℕ × V))
     (prefix : List ℕ) (first : List A) (left later : List (List ℕ × V)) (next : Result A E)
     → YieldsOrErr f left (Some next) later → map f first ++ left ≡ under prefix entries

@@ -75,13 +75,13 @@ module _ {V : Type 0} where
 
 module _ (item : List ℕ → Type 0) {V : Type 0} where
   -- the walk stands at a position, and the siblings that are next behind bytes of its path
-  pub record IsFront (p : FrontPosition V) : Type 0 where
+  pub record IsFrontPosition (p : FrontPosition V) : Type 0 where
     pub position : IsPosition item (seen p)
     pub within : p.front ≤ length p.path
 
   -- a step of it, with the value that it takes
   pub record Moves (p : FrontPosition V) (value : Option V) (q : FrontPosition V) : Type 0 where
-    pub place : IsFront q
+    pub place : IsFrontPosition q
     pub taken : q.pending ≡ None
     pub left : entries_left (state_at p)
         ≡ prefixed q.path (own value) ++ entries_left (state_at q)

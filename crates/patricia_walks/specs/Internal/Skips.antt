@@ -1,5 +1,5 @@
 -- How far a walk has come towards a key, past the entries before it.
-use Rattle.std.specs.Prelude.{◌≡◌, ◌<◌, ℕ, List}
+use Rattle.std.specs.Prelude.{◌≡◌, ◌<◌, ◌≤◌, ℕ, List}
 use Rattle.patricia_keys.specs.Keys.{Begins}
 use Rattle.patricia_model.specs.Ranges.{from}
 use Rattle.patricia_model.specs.Internal.WalkStates.{entries_left, steps_left, waiting}
@@ -27,6 +27,12 @@ module _ (item : List ℕ → Type 0) (key : List ℕ) {V : Type 0} where
     pub towards : IsTowards q
     pub same : from key (entries_ahead q) ≡ from key (entries_ahead p)
     pub less : steps_left (state_of q) < steps_left (state_of p)
+
+  -- siblings are passed: no entry from the key on, and no more steps are left
+  pub record Passes (p q : Position V) : Type 0 where
+    pub towards : IsTowards q
+    pub same : from key (entries_ahead q) ≡ from key (entries_ahead p)
+    pub few : steps_left (state_of q) ≤ steps_left (state_of p)
 
   -- no entry that is left comes before the key
   abbrev pub HasReached : Position V → Type 0

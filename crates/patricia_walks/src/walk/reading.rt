@@ -26,7 +26,7 @@ impl<'a, K: Bytes, V> Model for ReadCursor<'a, K, V> {
     ghost use Rattle.patricia_model.specs.Cursors.{ReadCursorView};
     ghost use Rattle.patricia_model.specs.Internal.Codes.{read_cursor_view_code};
     ghost use Rattle.patricia_model.specs.Internal.WalkStates.{entries_left};
-    ghost use Rattle.patricia_walks.specs.Internal.Fronts.{lent, state_at, IsFront};
+    ghost use Rattle.patricia_walks.specs.Internal.Fronts.{lent, state_at, IsFrontPosition};
 
     ghost Value = { ReadCursorView V };
 
@@ -37,7 +37,7 @@ impl<'a, K: Bytes, V> Model for ReadCursor<'a, K, V> {
       left = entries_left (state_at (lent c.place));
     } };
 
-    ghost invariant = { λ c. IsFront K.item (lent c.place) };
+    ghost invariant = { λ c. IsFrontPosition K.item (lent c.place) };
 }
 
 impl<'a, K: Bytes, V> ReadCursor<'a, K, V> {

@@ -1,24 +1,45 @@
 //! Walks that begin at a key: a descent goes past the entries before it.
-ghost use Rattle.std.specs.Prelude.{◌≡◌, ◌++◌, [], length, Some, None, true, false, IfOk, OnOk};
+ghost use Rattle.std.specs.Prelude.{◌≡◌, ◌<◌, ◌++◌, [], length, Some, None, true, false};
+ghost use Rattle.std.specs.Prelude.{IfOk, OnOk};
 ghost use Rattle.std.specs.Option.{option_copied};
 ghost use Rattle.patricia_model.specs.Ranges.{from};
 ghost use Rattle.patricia_model.specs.Siblings.{own, IsCanonical};
 ghost use Rattle.patricia_model.specs.Internal.WalkStates.{entries_left};
 ghost use Rattle.patricia_nodes.specs.Internal.Plans.{IsWellFormed, siblings_of, entries_of};
-ghost use Rattle.patricia_walks.specs.Internal.Fronts.{lent, seen, state_at, IsFront};
-ghost use Rattle.patricia_walks.specs.Internal.Skips.{IsTowards, Approaches, HasReached};
+ghost use Rattle.patricia_walks.specs.Internal.Fronts.{lent, seen, state_at, IsFrontPosition};
+ghost use Rattle.patricia_walks.specs.Internal.Skips.{IsTowards, Passes, Approaches};
+ghost use Rattle.patricia_walks.specs.Internal.Skips.{HasReached};
 
 use super::{Traversal, Walk};
 use crate::waiting::push_siblings;
 use patricia_keys::Bytes;
 use patricia_nodes::arena::NodeArena;
-use patricia_nodes::link::NodeId;
+use patricia_nodes::link::{Link, NodeId};
 use patricia_nodes::path::extend_path;
 use std::alloc::{AllocError, Global};
 use std::cmp::Ordering;
 use std::marker::PhantomData;
 
 impl<'a, V> Traversal<'a, V> {
+    // Passes the siblings from a node on that lie behind one another and begin with a lesser byte
+    // than what is left of the key, by their heads alone.
+    fn pass_run<K: Bytes>(&mut self, first: NodeId, key: &[u8]) -> NodeId
+        requires towards { IsTowards K.item key.now (seen (lent self.old)) }
+        requires front { self.old.front ≡ length self.old.path.items }
+        requires taken { (lent self.old).pending ≡ None }
+        requires short { length self.old.path.items < length key.now }
+        requires next { self.old.next ≡ Some first }
+        ensures passes { Passes K.item key.now (seen (lent self.old)) (seen (lent self.new)) }
+        ensures front { self.new.front ≡ length self.new.path.items }
+        ensures taken { (lent self.new).pending ≡ None }
+        ensures next { self.new.next ≡ Some result }
+    {
+        let byte = key[self.path.len()];
+        let id = self.arena.nodes.run(first, byte);
+        self.next = Link::some(id);
+        id
+    }
+
     // Goes on at a node: to its children where its label begins what is left of the key, and to its
     // sibling where the label comes before that. Else no entry that is left comes before the key,
     // and the walk stays.
@@ -55,10 +76,10 @@ impl<'a, V> Traversal<'a, V> {
 
     // Goes from the start of a walk to the first entry that does not come before the key.
     fn skip_to<K: Bytes>(&mut self, key: &[u8]) -> Result<(), AllocError>
-        requires place { IsFront K.item (lent self.old) }
+        requires place { IsFrontPosition K.item (lent self.old) }
         requires path { self.old.path.items ≡ [] }
         requires stack { self.old.stack.items ≡ [] }
-        ensures place { OnOk result (IsFront K.item (lent self.new)) }
+        ensures place { OnOk result (IsFrontPosition K.item (lent self.new)) }
         ensures left { OnOk result (entries_left (state_at (lent self.new))
             ≡ from key.now (entries_left (state_at (lent self.old)))) }
     {
@@ -67,9 +88,10 @@ impl<'a, V> Traversal<'a, V> {
                 return Ok(());
             }
             self.pending = None;
-            let Some(id) = self.next.get() else {
+            let Some(first) = self.next.get() else {
                 return Ok(());
             };
+            let id = self.pass_run::<K>(first, key);
             if !self.approach::<K>(id, key)? {
                 return Ok(());
             }

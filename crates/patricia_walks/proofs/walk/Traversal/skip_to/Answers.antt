@@ -40,6 +40,7 @@ returns-then-not-branch-clause-left g c =
     let w = c.loop-self.invariant.towards in
     let over = c.in_ok-approach.ensures.over c.if-not-branch.true in
     ap (λ (x : FrontPosition g.row.V.Denot). entries_ahead (seen x)) over.0 ∙ sym over.1
+    ∙ c.pass_run-id.ensures.passes.same
     ∙ value_same g.K.Bytes.item c.args.key.now p w (λ e. absurd (omega (arith, e, c.if-len-key.false, c.len.ensures, c.loop-self.self.path.ok.0)))
     ∙ c.loop-self.invariant.same
 
@@ -52,6 +53,7 @@ loop-self-preserved g c =
       towards = step.towards;
       front = c.in_ok-approach.ensures.front;
       same = step.same
+          ∙ c.pass_run-id.ensures.passes.same
           ∙ value_same g.K.Bytes.item c.args.key.now p w (λ e. absurd (omega (arith, e, c.if-len-key.false, c.len.ensures, c.loop-self.self.path.ok.0)))
           ∙ c.loop-self.invariant.same;
     }
