@@ -1,9 +1,11 @@
 -- Laws of the first entries of a list.
 use Rattle.std.proofs.Common.{◌≡◌, ℕ, ◌≤◌, ◌<◌, ◌⊎◌, inl, inr, List, [], ◌∷◌}
-use Rattle.std.proofs.Common.{◌++◌, length, map, take, refl, sym, ap, ◌∙◌, arith}
+use Rattle.std.proofs.Common.{◌++◌, length, map, take, Some, refl, sym, ap, ◌∙◌, arith}
+use Rattle.std.specs.Prelude.{Result, Ok, Err, OnErr}
 use Rattle.std.proofs.lemmas.List.{append-nil, length-append, length-map, take_all, take-append-le}
 use Rattle.std.proofs.lemmas.Bool.{cases_lt}
 use Rattle.patricia_tree.specs.Prefixes.{under}
+use Rattle.patricia_tree.specs.Walks.{YieldsOrErr}
 use Rattle.prefixes_core.specs.Completions.{Completes}
 
 -- a list without elements is empty
@@ -41,3 +43,35 @@ completed f entries prefix most first left count joined counted few all =
           ]);
       count_is = counted;
     }
+
+-- and where none is left
+pub all_completed : {A V : Type 0} (f : A → List ℕ × V) (entries : List (List ℕ × V))
+    (prefix : List ℕ) (most : ℕ) (first : List A) (left : List (List ℕ × V)) (count : ℕ)
+    → map f first ++ left ≡ under prefix entries → left ≡ [] → count ≡ length first
+    → length first ≤ most → Completes entries prefix most (map f first) count
+all_completed f entries prefix most first left count joined none counted few =
+    completed f entries prefix most first left count joined
+    (omega (
+      arith,
+      counted,
+      length-map first f,
+      length-append (map f first) left,
+      ap length none,
+      ap length joined,
+    )) few (λ _. inr none)
+
+-- where a walk finds an entry, or has none only for want of memory, some entry is under the prefix
+pub some_left : {A V E : Type 0} (f : A → List ℕ × V) (entries : List (List ℕ × V))
+    (prefix : List ℕ) (first : List A) (left later : List (List ℕ × V)) (next : Result A E)
+    → YieldsOrErr f left (Some next) later → map f first ++ left ≡ under prefix entries
+    → under prefix entries ≡ [] → ⊥
+some_left f entries prefix first left later (Ok x) yields joined none =
+    omega (arith, ap length joined, ap length none, ap length yields, length-append (map f first) left)
+some_left f entries prefix first left later (Err e) yields joined none =
+    yields.0 (none_of left (omega
+    (arith, ap length joined, ap length none, length-append (map f first) left)))
+
+-- what holds anyway holds at an error
+pub at_error : {T E P : Type 0} (r : Result T E) → P → OnErr r P
+at_error (Ok x) holds = tt
+at_error (Err e) holds = holds

@@ -19,8 +19,8 @@ pub struct Completions<'a, K: Bytes, V> {
 /// Returns the first `most` entries whose key begins with the prefix, in key order, and the number
 /// of all such entries, for an autocomplete.
 ///
-/// Takes a look-up, and time in proportion to all such entries, to count them. It copies the keys
-/// that it returns alone.
+/// Takes a look-up or two, and time in proportion to all such entries, to count them. It copies
+/// the keys that it returns alone.
 ///
 /// # Errors
 ///
@@ -45,14 +45,16 @@ pub fn complete<'a, Q: BorrowedBytes, V: Drop>(
         (list_map (λ found. (Q.Owned.key found.0, found.1.now)) c.first.items) c.count) }
     ensures err { OnErr result (under (Q.key prefix) (map.entries entries.now) ≢ []) }
 {
-    let count = entries.count_prefix(prefix)?;
     let mut left = entries.iter_prefix(prefix);
     let mut first = Vec::new(alloc);
-    for _ in 0..most.min(count) {
+    for _ in 0..most {
         let Some(entry) = left.next() else {
-            break;
+            let count = first.len();
+            return Ok(Completions { first, count });
         };
         first.push(entry?)?;
     }
+    // others may be left
+    let count = entries.count_prefix(prefix)?;
     Ok(Completions { first, count })
 }
