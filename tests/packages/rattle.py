@@ -4,8 +4,7 @@ lines over `patricia_tree` there.
 
     tests/packages/rattle.py [--dist FOLDER]
 
-Wants the kit's `rt` on the path. The libraries are proved first, in some 20 minutes, or taken where checks in another
-checkout on this machine have kept the same.
+Wants the kit's `rt` on the path. The libraries are proved first, in some 40 minutes.
 """
 import argparse
 import os
