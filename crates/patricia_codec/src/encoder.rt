@@ -4,13 +4,13 @@ ghost use Rattle.patricia_model.specs.Siblings.{own, keys_of, IsCanonical};
 ghost use Rattle.patricia_nodes.specs.Internal.Plans.{IsWellFormed, siblings_of, entries_of};
 ghost use Rattle.patricia_wire.specs.TreeBytes.{AreTreeBytes};
 ghost use Rattle.patricia_wire.specs.Writings.{TooDeep};
-ghost use Rattle.patricia_codec.specs.Internal.Lefts.{AreDeep};
 
-use crate::record::Record;
+use crate::record::{LONGEST, Record};
 use crate::records::Records;
 use crate::width::Width;
 use patricia_keys::Bytes;
 use patricia_nodes::arena::NodeArena;
+use patricia_nodes::link::NodeId;
 use std::alloc::{AllocError, Global};
 use thiserror::Error;
 
@@ -59,18 +59,22 @@ impl From<AllocError> for EncodeError {
     }
 }
 
-// How many bytes the encoding has. The error says as well that it would be too deep.
-fn size<K: Bytes, W: Width, V>(alloc: Global, arena: &NodeArena<V>) -> Result<usize, EncodeError>
-    requires whole { IsWellFormed arena.now }
-    requires siblings { IsCanonical K.item (siblings_of arena.now) }
-    ensures { result ≡ Err EncodeError.TooDeep → AreDeep K.item W.width arena.now }
-{
-    let mut records = Records::new(alloc, arena);
+// A part of a label that others follow has at least so many bytes: as many whole items as fit.
+const LEAST_PART: usize = LONGEST - 3;
+
+// About how many bytes the encoding has, and no fewer. Reads the nodes as they lie.
+fn size<W: Width, V>(arena: &NodeArena<V>) -> usize {
+    let nodes = &arena.nodes;
     let mut size = W::head();
-    while let Some(record) = records.next::<K, W>()? {
-        size = size.saturating_add(W::head() + record.label.len());
+    for i in 0..nodes.len() {
+        let len = nodes.label(NodeId::new(i)).len();
+        // the label of a free node is empty
+        if len > 0 {
+            let heads = (len / LEAST_PART + 1).saturating_mul(W::head());
+            size = size.saturating_add(heads).saturating_add(len);
+        }
     }
-    Ok(size)
+    size
 }
 
 /// The tree bytes of the empty key's value and the nodes.
@@ -93,7 +97,7 @@ pub fn encode<K: Bytes, W: Width, V>(
         child: arena.root.get().is_some(),
         sibling: false,
     };
-    let mut out = Vec::with_capacity(alloc, size::<K, W, V>(alloc, arena)?)?;
+    let mut out = Vec::with_capacity(alloc, size::<W, V>(arena))?;
     root.write::<W>(&mut out)?;
     let mut records = Records::new(alloc, arena);
     while let Some(record) = records.next::<K, W>()? {

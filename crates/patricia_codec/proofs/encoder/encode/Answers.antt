@@ -8,11 +8,6 @@ use Rattle.patricia_codec.proofs.EncodeLemmas.{too_deep, shallow-snoc, spellings
 use Rattle.patricia_codec.proofs.LeftLemmas.{err_from}
 use Rattle.patricia_codec.proofs.encoder.encode.Goals as goal
 
-pub returns-in_err-size-clause-too_deep : goal.returns-in_err-size-clause-too_deep
-returns-in_err-size-clause-too_deep g c deep =
-    let is = err_from c.size.result c.from_residual.result _ _ c.in_err-size.was c.from_residual.ensures.1 deep in
-    too_deep g.K.Bytes.item g.met.K.Bytes.lawful c.args.arena.now c.args.value.now g.W.Width.width c.requires.siblings (c.size.ensures is)
-
 pub write-requires-clause-level : goal.write-requires-clause-level
 write-requires-clause-level g c = positive g.W.Width.width
 
