@@ -25,12 +25,12 @@ that opens no goal there is tried by itself, and so is one of what others rest o
 crate's code that a comment 'refused:' holds is tried too: as code, it breaks the rules of borrows.
 
 The libraries are those that rt left in out/. With '--beside FOLDER LOG' they are those that an
-rt ci makes there meanwhile, each crate's once the output in LOG says that it is proved. Until LOG
-has the line 'rt ci has ended' as many checks run as it leaves processors, or one, and then as many
-as there are processors.
-'--archive FILE' builds the library for C there, which no check holds up. What a good edit came to is kept on this machine,
-and told again while nothing changes that its check reads, and so is that library; with --anew all
-is done.
+rt ci makes there meanwhile: the edits of a crate are tried once the output in LOG says that the
+libraries below it are proved, and the library for C is built once its crate is. Until LOG has the
+line 'rt ci has ended' as many checks run as it leaves processors, or one, and then as many as there
+are processors. '--archive FILE' builds the library for C there, which no check holds up. What a
+good edit came to is kept on this machine, and told again while nothing changes that its check
+reads, and so is that library; with --anew all is done.
 
 The last line sums all: 'N passed, M failed'.
 """

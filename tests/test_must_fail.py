@@ -11,10 +11,11 @@ import unittest
 
 from tests import crates as listing
 from tests import must_fail
-from tests.mutants.checks import Check
+from tests.mutants.checks import Check, Prover
 from tests.mutants.due import History
 from tests.mutants.edits import Edit, Goal, Sources, packs
-from tests.mutants.running import Beside, Queue
+from tests.mutants.keeping import Kept
+from tests.mutants.running import Beside, Queue, Work
 
 SOURCE = '''#![tactic(auto)]
 
@@ -288,16 +289,23 @@ class Queued(Small):
         queue.add(lambda: True, urgent, True)
         self.assertEqual(queue.done(), [True])
 
-    def test_a_crate_is_tried_once_rt_ci_says_that_it_is_proved(self):
-        crate = listing.listed(self.top)['small']
+    def test_what_rt_ci_says_of_a_crate_is_known(self):
         for text, is_known, is_proved in (('', False, False), ('rt: small proved\n', True, True),
                                           ('rt: small is kept: an earlier run\n', True, True),
                                           ('rt: small NOT PROVED\n', True, False),
                                           ('rt: smaller proved\n', False, False),
                                           ('rt ci has ended\n', True, False)):
             beside = Beside(written(self.top, 'log', text))
-            self.assertEqual(beside.knows(crate), is_known)
-            self.assertEqual(beside.has_proved(crate), is_proved)
+            self.assertEqual(beside.knows('small'), is_known)
+            self.assertEqual(beside.has_proved('small'), is_proved)
+
+    def test_edits_wait_for_the_libraries_below_alone(self):
+        written(self.top, 'crates.txt', 'low:\nsmall: low\n')
+        prover = Prover(listing.listed(self.top), self.top)
+        work = Work(self.sources(), [], Kept(prover, False, self.top), self.top)
+        self.assertEqual(work.needed(), ['low'])
+        work.archive = 'libsmall.a'
+        self.assertEqual(work.needed(), ['low', 'small'])
 
 
 class Due(Small):

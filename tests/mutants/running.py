@@ -48,12 +48,12 @@ class Beside:
         return self.says('^rt ci has ended$')
 
     def knows(self, crate):
-        """Whether it is known by now if a crate is proved."""
-        proved = r'^rt: %s (proved|is kept: .*|NOT PROVED.*)$' % crate.name
+        """Whether it is known by now if the crate of this name is proved."""
+        proved = r'^rt: %s (proved|is kept: .*|NOT PROVED.*)$' % crate
         return self.has_ended() or self.says(proved)
 
     def has_proved(self, crate):
-        return self.says(r'^rt: %s (proved$|is kept: )' % crate.name)
+        return self.says(r'^rt: %s (proved$|is kept: )' % crate)
 
 
 def checks_in(folder):
@@ -133,19 +133,26 @@ class Work:
         self.work = os.path.join(room, sources.crate.name)
 
     def add_to(self, queue):
-        """Has a queue do it, once it is known if the crate is proved."""
+        """Has a queue do it, once it is known if the libraries below are proved, and for an archive
+        the crate itself. Edits need not wait for the crate: where that is not proved, its rt ci
+        fails."""
         if self.archive or self.edits or list(self.sources.lines()):
-            queue.add(lambda: queue.beside.knows(self.sources.crate), lambda: self.begin(queue),
-                      bool(self.archive))
+            queue.add(lambda: all(map(queue.beside.knows, self.needed())),
+                      lambda: self.begin(queue), bool(self.archive))
+
+    def needed(self):
+        """The crates that are to be proved before."""
+        crate = self.sources.crate
+        return [*listing.below(self.prover.crates, crate.name), *[crate.name] * bool(self.archive)]
 
     def begin(self, queue):
         """Tells what is known, and tries the rest: in turn, or over a check of the crate as it
         stands, each pack a call of its own."""
         lines = list(self.sources.lines())
-        is_proved = queue.beside.has_proved(self.sources.crate)
-        if not is_proved or not all(map(os.path.isdir, self.prover.libraries(self.sources.crate))):
-            why = 'ITS LIBRARIES ARE NOT BUILT' if is_proved else 'ITS CRATE IS NOT PROVED'
-            return [self.say(x.name, why) for x in [*lines, *self.edits]]
+        if not all(map(queue.beside.has_proved, self.needed())):
+            return [self.say(x.name, 'WHAT IT NEEDS IS NOT PROVED') for x in [*lines, *self.edits]]
+        if not all(map(os.path.isdir, self.prover.libraries(self.sources.crate))):
+            return [self.say(x.name, 'ITS LIBRARIES ARE NOT BUILT') for x in [*lines, *self.edits]]
         told, new = self.told_at_once([*lines, *self.edits])
         is_built = self.archive and self.kept.gives(self.sources, self.archive)
         if is_built:
