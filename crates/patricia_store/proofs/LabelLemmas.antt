@@ -1,6 +1,7 @@
 -- Labels as parts of one list of bytes.
 use Rattle.std.proofs.Common.{◌≡◌, ℕ, ◌+◌, ◌-◌, min, ◌/◌, ◌%◌, ◌≤◌, List, [], ◌++◌, length, take, drop, get_or}
 use Rattle.std.proofs.Common.{sym, ap, ◌∙◌, inl, inr, arith, append_assoc, length-append, length-drop}
+use Rattle.std.proofs.Common.{take-add}
 use native.Mathlib.Numerals.{unary_clauses}
 use Rattle.std.proofs.lemmas.Bool.{cases_lt}
 use Rattle.std.proofs.lemmas.Bool.Decides.{nat_tests}
@@ -132,6 +133,22 @@ parts_joined xs mid ys i n j m at here first second e f =
       length-take-le n (drop i xs) (omega (arith, first, length-drop i xs)),
       length-take-le m (drop j xs) (omega (arith, second, length-drop j xs)),
     )))
+
+-- no byte is a label anywhere within the bytes
+pub empty_span : (bytes : List ℕ) (offset : Packed) → number offset ≡ 0
+    → IsSpan bytes (record { len = 0; offset = offset })
+empty_span bytes offset at = record {
+  note_long = λ h. absurd (omega (arith, h));
+  note_within = λ h. absurd (omega (arith, h));
+  label_within = omega (arith, at);
+}
+
+-- two parts of which the second comes right behind the first are one part
+pub part_beside : (xs : List ℕ) (i n j m : ℕ) → i + n ≡ j
+    → take (n + m) (drop i xs) ≡ take n (drop i xs) ++ take m (drop j xs)
+part_beside xs i n j m e =
+    take-add n m (drop i xs) ∙ ap (λ l. take n (drop i xs) ++ take m l) (drop-drop n i xs)
+    ∙ ap (λ k. take n (drop i xs) ++ take m (drop k xs)) e
 
 -- the front of a part
 pub part_front : (l : List ℕ) (n len k : ℕ) → k ≡ min n len → take k l ≡ take n (take len l)

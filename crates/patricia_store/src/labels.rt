@@ -101,6 +101,29 @@ fn repeat(bytes: &mut Vec<u8>, start: usize, len: usize)
     let _added = bytes.extend_from_within(start..start + len);
 }
 
+// Where a part of the bytes is that begins with one part and ends with another. Both are added
+// behind all bytes, but where the second stands right behind the first. Does not allocate.
+fn place_joined(bytes: &mut Vec<u8>, first: usize, n: usize, second: usize, m: usize) -> usize
+    requires first { first + n ≤ vec_len bytes.old }
+    requires second { second + m ≤ vec_len bytes.old }
+    requires room { vec_len bytes.old + (n + m) ≤ vec_capacity bytes.old }
+    ensures extends { Extends bytes.old.items bytes.new.items }
+    ensures label { take (n + m) (drop result bytes.new.items)
+        ≡ take n (drop first bytes.old.items) ++ take m (drop second bytes.old.items) }
+    ensures within { result + (n + m) ≤ vec_len bytes.new }
+    ensures length { vec_len bytes.new ≤ vec_len bytes.old + (n + m) }
+    ensures capacity { vec_capacity bytes.old ≤ vec_capacity bytes.new }
+{
+    let end = first + n;
+    if end == second {
+        return first;
+    }
+    let start = bytes.len();
+    repeat(bytes, first, n);
+    repeat(bytes, second, m);
+    start
+}
+
 // Adds a number in six bytes. Does not allocate.
 fn push_number(bytes: &mut Vec<u8>, n: usize)
     requires small { n < most + 1 }
@@ -187,6 +210,12 @@ impl Labels {
             ≡ length self.old.items + label_room (length label.now) }
         ensures room { self.old.room ≤ self.new.room + label_room (length label.now) }
     {
+        if label.is_empty() {
+            return Span {
+                len: 0,
+                offset: Packed::new(0),
+            };
+        }
         let start = self.bytes.len();
         add(&mut self.bytes, label);
         note(&mut self.bytes, start, label.len())
@@ -207,7 +236,8 @@ impl Labels {
         note(&mut self.bytes, start, upper.len() + lower.len())
     }
 
-    /// Adds the label that begins with one and ends with another. Does not allocate.
+    /// The label that begins with one and ends with another. Adds no byte of it where the second
+    /// stands right behind the first. Does not allocate.
     pub fn join(&mut self, upper: Span, lower: Span) -> Span
         requires upper { IsSpan self.old.items upper }
         requires lower { IsSpan self.old.items lower }
@@ -220,11 +250,9 @@ impl Labels {
         ensures room { self.old.room ≤ self.new.room
             + joined_room (len_in self.old.items upper) (len_in self.old.items lower) }
     {
-        let start = self.bytes.len();
         let (first, n) = bounds(self.bytes.as_slice(), upper);
         let (second, m) = bounds(self.bytes.as_slice(), lower);
-        repeat(&mut self.bytes, first, n);
-        repeat(&mut self.bytes, second, m);
+        let start = place_joined(&mut self.bytes, first, n, second, m);
         note(&mut self.bytes, start, n + m)
     }
 

@@ -59,6 +59,16 @@ impl<V> Model for Store<V> {
     ghost invariant = { λ s. AreSound s.heads.items s.bodies.items s.labels.items };
 }
 
+// About how many bytes belong to no label once two labels are joined. Those of the second count
+// when its node gets another label, but belong to the joined label where that is no copy.
+fn dead_joined(dead: usize, is_copied: bool, upper_len: usize, lower_len: usize) -> usize {
+    if is_copied {
+        dead.saturating_add(upper_len)
+    } else {
+        dead.saturating_sub(lower_len)
+    }
+}
+
 impl<V> Store<V> {
     /// No node. Does not allocate.
     pub fn new(alloc: Global) -> Store<V>
@@ -320,15 +330,17 @@ impl<V> Store<V> {
         let head = self.heads[upper];
         let first = span_of(head, &self.bodies[upper]);
         let second = span_of(self.heads[lower], &self.bodies[lower]);
-        self.dead = self
-            .dead
-            .saturating_add(label_len(&self.bodies[upper], &self.labels));
+        let upper_len = label_len(&self.bodies[upper], &self.labels);
+        let lower_len = label_len(&self.bodies[lower], &self.labels);
+        let used = self.labels.len();
         let node = Draft {
             span: self.labels.join(first, second),
             child,
             sibling: head.sibling(),
             value,
         };
+        let is_copied = self.labels.len() != used;
+        self.dead = dead_joined(self.dead, is_copied, upper_len, lower_len);
         write(&mut self.heads, &mut self.bodies, &self.labels, upper, node)
     }
 }

@@ -1,9 +1,11 @@
 //! The bytes that labels take.
 ghost use Rattle.std.specs.Prelude.{◌≡◌, ◌+◌, ◌<◌, ◌≤◌, length, IfSome, IfNone, OnOk, OnErr};
+ghost use Rattle.patricia_store.specs.Internal.Packing.{most};
 ghost use Rattle.patricia_store.specs.Internal.Labels.{label_room, joined_room, cut_room};
 ghost use Rattle.patricia_store.specs.Internal.Nodes.{ReadsNode, labels_room};
 
 use super::Store;
+use crate::head::LONG;
 use crate::labels::{Labels, cut_room, label_room};
 use crate::laying::{lay, needed_bytes};
 use crate::packed::MOST;
@@ -11,12 +13,25 @@ use std::alloc::AllocError;
 use std::mem;
 
 impl<V> Store<V> {
+    // The length of a node's label. Reads its head alone where that is less than 63.
+    fn label_len(&self, id: usize) -> usize
+        requires { id < length self.now.items }
+        ensures node { ReadsNode self.now id (λ n. result ≡ length n.label) }
+        ensures short { result ≤ most }
+    {
+        let len = self.short_len(id);
+        if len < LONG {
+            return len;
+        }
+        self.label(id).len()
+    }
+
     /// How many bytes the label of a node takes.
     pub fn label_room(&self, id: usize) -> usize
         requires { id < length self.now.items }
         ensures { ReadsNode self.now id (λ n. result ≡ label_room (length n.label)) }
     {
-        label_room(self.label(id).len())
+        label_room(self.label_len(id))
     }
 
     /// How many bytes the labels of all nodes take, or `None` where that is more than are used.
@@ -34,7 +49,7 @@ impl<V> Store<V> {
         requires { id < length self.now.items }
         ensures { ReadsNode self.now id (λ a. result ≡ cut_room (length a.label)) }
     {
-        cut_room(self.label(id).len())
+        cut_room(self.label_len(id))
     }
 
     /// How many bytes there is to be room for where the labels of two nodes are joined.
@@ -44,7 +59,7 @@ impl<V> Store<V> {
         ensures { ReadsNode self.now upper (λ a. ReadsNode self.now lower
             (λ b. result ≡ joined_room (length a.label) (length b.label))) }
     {
-        label_room(self.label(upper).len() + self.label(lower).len())
+        label_room(self.label_len(upper) + self.label_len(lower))
     }
 
     /// About how many bytes belonged to labels that other labels replaced. Those of nodes that are

@@ -1,7 +1,16 @@
 use Rattle.std.proofs.Common.{length, take, drop, ap, ◌∙◌, arith}
 use Rattle.std.proofs.lemmas.List.{drop_at, take_all}
-use Rattle.patricia_store.proofs.LabelLemmas.{extends_more}
+use Rattle.patricia_store.specs.Internal.Packing.{number}
+use Rattle.patricia_store.proofs.PackingLemmas.{number-packed}
+use Rattle.patricia_store.proofs.LabelLemmas.{empty_span, extends_none, extends_more}
 use Rattle.patricia_store.proofs.labels.Labels.push.Goals as goal
+
+pub returns-then-is_empty-clause-extends : goal.returns-then-is_empty-clause-extends
+returns-then-is_empty-clause-extends c = extends_none c.args.self.now.items
+
+pub returns-then-is_empty-clause-span : goal.returns-then-is_empty-clause-span
+returns-then-is_empty-clause-span c =
+    empty_span c.args.self.now.items c.new.result (ap number c.new.ensures ∙ number-packed 0)
 
 pub returns-clause-extends : goal.returns-clause-extends
 returns-clause-extends c =

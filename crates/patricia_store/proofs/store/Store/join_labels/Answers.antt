@@ -87,8 +87,8 @@ returns-clause-room g c a there b beside =
     c.args.lower c.requires.lower c.index-2.result.now c.index-2.ensures c.index-3.result.now c.index-3.ensures c.span_of-second.result c.span_of-second.ensures b beside in
     rw (← first, ← second) (omega (arith, c.join.ensures.room, ap (λ s. s.room) c.self.view_is))
 
-pub label_len-requires : goal.label_len-requires
-label_len-requires g c =
+pub label_len-upper_len-requires : goal.label_len-upper_len-requires
+label_len-upper_len-requires g c =
     body_span c.self.inside.heads c.self.inside.bodies c.self.inside.labels.items c.self.invariant c.args.self.now.items (ap (λ s. s.items) c.self.view_is)
     c.args.upper c.requires.upper c.index-4.result.now c.index-4.ensures
 
@@ -96,3 +96,13 @@ pub index-requires-4 : goal.index-requires-4
 index-requires-4 g c =
     in_bodies c.self.inside.heads c.self.inside.bodies c.self.inside.labels.items c.self.invariant c.args.self.now.items (ap (λ s. s.items) c.self.view_is)
     c.args.upper c.requires.upper
+
+pub label_len-lower_len-requires : goal.label_len-lower_len-requires
+label_len-lower_len-requires g c =
+    body_span c.self.inside.heads c.self.inside.bodies c.self.inside.labels.items c.self.invariant c.args.self.now.items (ap (λ s. s.items) c.self.view_is)
+    c.args.lower c.requires.lower c.index-5.result.now c.index-5.ensures
+
+pub index-requires-5 : goal.index-requires-5
+index-requires-5 g c =
+    in_bodies c.self.inside.heads c.self.inside.bodies c.self.inside.labels.items c.self.invariant c.args.self.now.items (ap (λ s. s.items) c.self.view_is)
+    c.args.lower c.requires.lower
