@@ -26,7 +26,7 @@ use Rattle.patricia_nodes.proofs.SeekLemmas.{byte_is, opens, opens_siblings, who
 use Rattle.patricia_nodes.proofs.FillLemmas.{plan_within}
 use Rattle.patricia_many.specs.declared.lookup.Lookup.{Lookup}
 use Rattle.patricia_many.specs.Internal.Lookups.{along_ahead, entry_at, HasBest, IsAt, IsLookup, KeepsBest}
-use Rattle.patricia_many.proofs.LookupLemmas.{Stands, at_filled, at_labelled, at_node, at_valid, goes_next, stands, walk}
+use Rattle.patricia_many.proofs.LookupLemmas.{Stands, at_filled, at_labelled, at_node, at_valid, goes_next, run_passes, stands, walk}
 
 module _ (item : List ℕ → Type 0) (kind : IsKeyKind item) where
   -- a label that comes before a key, or after it, does not begin it
@@ -215,17 +215,17 @@ pub ahead_top_empty : (item : List ℕ → Type 0) (kind : IsKeyKind item) {V : 
 ahead_top_empty item kind s ok key none = ahead_none s key 0 ∙ sym (rw none (along_empty item kind (siblings_of s) ok))
 
 -- where a node is passed, it is kept if it has a value, and what was ahead is its entry and what is ahead then
-pub best_grows : (item : List ℕ → Type 0) {V : Type 0} (s : NodeArena V) (key : List ℕ) (a k b : Lookup)
-    → b.best ≡ k.best → b.best_len ≡ k.best_len → (id len : ℕ) (n : Node V)
+pub best_grows : (item : List ℕ → Type 0) {V : Type 0} (s : NodeArena V) (key : List ℕ) (a o k b : Lookup)
+    → o.best ≡ a.best → o.best_len ≡ a.best_len → b.best ≡ k.best → b.best_len ≡ k.best_len → (id len : ℕ) (n : Node V)
     → slice_get s.nodes.items id ≡ Some n → id < length s.nodes.items → len ≤ length key → IsValid item (take len key)
-    → KeepsBest n.value id len a k → (es : List (List ℕ × V))
+    → KeepsBest n.value id len o k → (es : List (List ℕ × V))
     → along_ahead s key a.passed a.at ≡ prefixed (take len key) (own n.value ++ es)
     → along_ahead s key b.passed b.at ≡ prefixed (take len key) es
     → HasBest item s key a → HasBest item s key b
-best_grows item {V} s key a k b best_is len_is id len n there within fits valid kept es before after h = by n.value refl kept
+best_grows item {V} s key a o k b same same_len best_is len_is id len n there within fits valid kept es before after h = by n.value refl kept
   where
-    by : (v : Option V) → n.value ≡ v → KeepsBest v id len a k → HasBest item s key b
-    by None none kept = best_stays item s key a b (best_is ∙ kept.0) (len_is ∙ kept.1) (after ∙ sym (before ∙ ap (λ v. prefixed (take len key) (own v ++ es)) none)) h
+    by : (v : Option V) → n.value ≡ v → KeepsBest v id len o k → HasBest item s key b
+    by None none kept = best_stays item s key a b (best_is ∙ kept.0 ∙ same) (len_is ∙ kept.1 ∙ same_len) (after ∙ sym (before ∙ ap (λ v. prefixed (take len key) (own v ++ es)) none)) h
     by (Some v) some kept = record {
       within = rw (best_is ∙ kept.0, len_is ∙ kept.1) (within, fits, valid);
       last = λ top.
@@ -268,4 +268,15 @@ pub other_fields : (item : List ℕ → Type 0) {V : Type 0} (s : NodeArena V) (
 other_fields item s by_prefix key a b at passed ends best len is = (
   rw (at, passed, ends) is.0,
   λ wants. best_stays item s key a b best len (rw (at, passed) refl) (is.1 wants),
+)
+
+-- a look-up that passes siblings is one of the same key
+pub passes_on : (item : List ℕ → Type 0) (kind : IsKeyKind item) {V : Type 0} (s : NodeArena V) → IsWellFormed s
+    → IsCanonical item (siblings_of s) → (by_prefix : Bool) (key : List ℕ) (l : Lookup) (from to : ℕ) → l.at ≡ Some from
+    → IsValid item (drop l.passed key) → IsLookup item s by_prefix key l → IsRun s.nodes (get_or (drop l.passed key) 0 0) from to
+    → IsLookup item s by_prefix key (record l { at = Some to })
+passes_on item kind s whole ok by_prefix key l from to is valid look_up run = (
+  run_passes (stands item kind s whole ok key l.at (drop l.passed key) l.end from is look_up.0) valid to run,
+  λ wants. best_stays item s key l (record l { at = Some to }) refl refl
+      (ahead_past item kind s whole ok key l.passed l.at l.end from to is valid look_up.0 run) (look_up.1 wants),
 )

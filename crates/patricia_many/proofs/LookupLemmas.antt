@@ -78,6 +78,12 @@ stands item kind s whole ok key at rest end id is here =
     let there = subst (λ a. IsAt item s key a rest end) is here in
     record { kind = kind; whole = whole; ok = ok; is = is; link_ref = there.0; come = there.1 }
 
+-- where so many bytes of the key are passed
+pub stands_at : (item : List ℕ → Type 0) (kind : IsKeyKind item) {V : Type 0} (s : NodeArena V)
+    → IsWellFormed s → IsCanonical item (siblings_of s) → (key : List ℕ) (passed id : ℕ)
+    → IsAt item s key (Some id) (drop passed key) None → Stands item s key (Some id) id (drop passed key)
+stands_at item kind s whole ok key passed id here = stands item kind s whole ok key (Some id) (drop passed key) None id refl here
+
 module _ {item : List ℕ → Type 0} {V : Type 0} {s : NodeArena V} {key : List ℕ} {at : Option ℕ}
     {id : ℕ} {rest : List ℕ} (h : Stands item s key at id rest) where
   open h use {kind, whole, ok, is}

@@ -1,6 +1,7 @@
 -- Look-ups side by side, of which one goes on at a time.
 use Rattle.std.proofs.Common.{◌≡◌, Bool, true, false, ℕ, ◌+◌, ◌<◌, ◌≤◌, List, [], length, map, get_or, set, drop, None, Some, slice_get}
-use Rattle.std.proofs.Common.{sym, ap, subst, ◌∙◌, inl, inr, arith}
+use Rattle.std.proofs.Common.{refl, sym, ap, subst, ◌∙◌, inl, inr, arith}
+use mathlib.Core.Bool.{false≢true}
 use Rattle.std.proofs.lemmas.List.{length-map, map-append}
 use Rattle.std.proofs.lemmas.Slice.{take-put_mid}
 use borrow.Rule.Slice.PartMut.{put_mid}
@@ -11,9 +12,8 @@ use Rattle.std.specs.Option.{option_map}
 use Rattle.std.proofs.lemmas.Bool.{cases_eq}
 use Rattle.std.proofs.lemmas.Option.{slice_get-get_or, slice_get-map, slice_get_within}
 use Rattle.patricia_nodes.proofs.WriteLemmas.{get-set_same, get-set_other}
-use Rattle.patricia_nodes.specs.declared.arena.NodeArena.{NodeArena}
 use Rattle.patricia_many.specs.declared.lookup.Lookup.{Lookup}
-use Rattle.patricia_many.specs.Internal.Lookups.{AreEndedTo, IsLookup}
+use Rattle.patricia_many.specs.Internal.Lookups.{AreEndedTo}
 
 same_item : {X : Type 0} (xs : List X) (k : ℕ) (x y : X) → slice_get xs k ≡ Some x → slice_get xs k ≡ Some y → x ≡ y
 same_item xs k x y e f = cc
@@ -65,10 +65,6 @@ module _ (Is : List ℕ → Lookup → Type 0) (keys : List (List ℕ)) (ls : Li
         subst (Is key) b_is (stays key (are i key _ keys_here (slice_get-get_or ls i l within)))
     | inr other ↦ are k key a keyed (sym (get-set_other ls i k b other) ∙ at)
   ]
-
--- a look-up is begun, whatever it is asked for
-abbrev pub IsStarted : (List ℕ → Type 0) → {V : Type 0} → NodeArena V → List ℕ → Lookup → Type 0
-IsStarted item s key l = (by_prefix : Bool) → IsLookup item s by_prefix key l
 
 -- the look-ups of the first n keys are begun
 abbrev pub AreStarted : (List ℕ → Lookup → Type 0) → ℕ → List (List ℕ) → List Lookup → Type 0
@@ -164,3 +160,11 @@ part_copied f keys found new at n k before got same fits as_many =
 pub few_more : (count i : ℕ) (b : Bool) → count ≤ i → count + bool_byte b ≤ i + 1
 few_more count i true few = omega (arith, few)
 few_more count i false few = omega (arith, few)
+
+-- nor in two lists, of which it comes to one at the most
+pub few_apart : (count others i : ℕ) (b c : Bool) → (c ≡ true → b ≡ false) → count + others ≤ i
+    → count + bool_byte b + (others + bool_byte c) ≤ i + 1
+few_apart count others i true true apart few = absurd (false≢true (sym (apart refl)))
+few_apart count others i true false apart few = omega (arith, few)
+few_apart count others i false true apart few = omega (arith, few)
+few_apart count others i false false apart few = omega (arith, few)

@@ -1,12 +1,12 @@
 //! A look-up on its way, which goes on a node at a time.
-ghost use Rattle.std.specs.Prelude.{◌≡◌, ◌<◌, ◌≤◌, ◌≢◌, ◌↔◌, [], None, IfSome, vec_len, Bool};
+ghost use Rattle.std.specs.Prelude.{◌≡◌, ℕ, ◌<◌, ◌≤◌, ◌≢◌, ◌↔◌, [], None, Some, IfSome, vec_len};
 ghost use Rattle.std.specs.Prelude.{◌++◌, IsTrue, drop, false, length, take, true};
 ghost use Rattle.std.specs.Option.{option_copied, option_map};
 ghost use Rattle.std.specs.FinMap.{find};
 ghost use Rattle.patricia_keys.specs.Keys.{key_cmp, IsValid};
 ghost use Rattle.patricia_model.specs.Prefixes.{longest};
 ghost use Rattle.patricia_model.specs.Siblings.{own, IsCanonical};
-ghost use Rattle.patricia_nodes.specs.Internal.NodeVecs.{ReadsNode};
+ghost use Rattle.patricia_nodes.specs.Internal.NodeVecs.{IsRun, ReadsNode};
 ghost use Rattle.patricia_nodes.specs.Internal.Plans.{IsWellFormed, siblings_of, entries_of};
 ghost use Rattle.patricia_many.specs.Internal.Lookups.{IsFind, IsLookup, KeepsBest, nodes_ahead};
 
@@ -14,6 +14,19 @@ use patricia_keys::{BorrowedBytes, Bytes};
 use patricia_model::label_cmp::LabelCmp;
 use patricia_nodes::arena::NodeArena;
 use patricia_nodes::link::{Link, NodeId};
+
+// So many rows are passed at once where a look-up begins: these are read so often that no read
+// waits for memory.
+const TOP_ROWS: usize = 2;
+
+// Whether a key that begins with this byte is compared with the label of a node, and not with its
+// head alone.
+#[inline(always)]
+fn needs_label<V>(arena: &NodeArena<V>, id: NodeId, b: u8) -> bool
+    requires { id < length arena.now.nodes.items }
+{
+    arena.nodes.first_byte(id) == b && arena.nodes.short_len(id) != 1
+}
 
 /// A look-up on its way, or at its end.
 #[derive(Clone, Copy)]
@@ -24,8 +37,6 @@ pub struct Lookup {
     passed: usize,
     // what was last read of the node there: the first byte of its label
     first: u8,
-    // whether the label of the node there is read before it is compared with the key
-    waits: bool,
     // at its end the node of the key, where there is one
     end: Link,
     // where the longest prefix is looked for, its node among those that were passed, if it is not
@@ -41,7 +52,6 @@ impl Lookup {
             at: Link::none(),
             passed: 0,
             first: 0,
-            waits: false,
             end: Link::none(),
             best: Link::none(),
             best_len: 0,
@@ -49,11 +59,10 @@ impl Lookup {
     }
 
     /// Begins the look-up of a key, and of its longest prefix where that is asked for, at the top.
-    pub fn start<Q: BorrowedBytes, V>(&mut self, arena: &NodeArena<V>, key: Q)
+    pub fn start<Q: BorrowedBytes, V>(&mut self, arena: &NodeArena<V>, key: Q, by_prefix: bool)
         requires whole { IsWellFormed arena.now }
         requires siblings { IsCanonical Q.Owned.item (siblings_of arena.now) }
-        ensures { (by_prefix : Bool)
-            → IsLookup Q.Owned.item arena.now by_prefix (Q.key key) self.new }
+        ensures { IsLookup Q.Owned.item arena.now by_prefix (Q.key key) self.new }
     {
         self.passed = 0;
         self.best = Link::none();
@@ -61,6 +70,7 @@ impl Lookup {
             self.end_at(Link::none());
         } else {
             self.go_to(arena.root);
+            self.pass_top(arena, key, by_prefix);
         }
     }
 
@@ -71,28 +81,28 @@ impl Lookup {
         self.at.get().is_some()
     }
 
-    /// Whether it waits for a label.
+    /// Whether it is not yet at its end and does not wait for a label. Whether it waits is given.
     #[inline(always)]
-    pub fn waits(&self) -> bool {
-        self.waits
+    pub fn goes_on_at_once(&self, waits: bool) -> bool
+        ensures { waits ≡ true → result ≡ false }
+    {
+        !waits && self.goes_on()
     }
 
     // Goes to these siblings.
     #[inline(always)]
     fn go_to(&mut self, at: Link)
-        ensures { self.new ≡ record self.old { at = at; waits = false; end = None } }
+        ensures { self.new ≡ record self.old { at = at; end = None } }
     {
         self.at = at;
-        self.waits = false;
         self.end = Link::none();
     }
 
     // Ends at this node.
     fn end_at(&mut self, end: Link)
-        ensures { self.new ≡ record self.old { at = None; waits = false; end = end } }
+        ensures { self.new ≡ record self.old { at = None; end = end } }
     {
         self.at = Link::none();
-        self.waits = false;
         self.end = end;
     }
 
@@ -107,15 +117,13 @@ impl Lookup {
         }
     }
 
-    /// Reads the label of the node there, if the look-up waits for it.
+    /// Reads the label of the node there.
     #[inline(always)]
     pub fn read_label<V>(&mut self, arena: &NodeArena<V>)
         requires { IfSome self.old.at (λ id. id < length arena.now.nodes.items) }
         ensures { self.new ≡ record self.old { first = self.new.first } }
     {
-        if let Some(id) = self.at.get()
-            && self.waits
-        {
+        if let Some(id) = self.at.get() {
             let label = arena.nodes.label(id);
             if !label.is_empty() {
                 self.first = label[0];
@@ -133,44 +141,19 @@ impl Lookup {
         key.strip_n_prefix(self.passed)
     }
 
-    // Passes the siblings that come before the key and lie behind one another. The head of the
-    // first was read.
+    // The first node from this one on, along siblings that lie behind one another, that does not
+    // come before the next byte of the key, or the last of them. The head of this one was read.
     #[inline(always)]
-    fn pass_siblings<Q: BorrowedBytes, V>(&mut self, arena: &NodeArena<V>, key: Q)
-        requires whole { IsWellFormed arena.now }
-        requires siblings { IsCanonical Q.Owned.item (siblings_of arena.now) }
-        requires key { IsFind Q.Owned.item arena.now (Q.key key) self.old }
-        ensures key { (by_prefix : Bool)
-            → IsLookup Q.Owned.item arena.now by_prefix (Q.key key) self.old
-            → IsLookup Q.Owned.item arena.now by_prefix (Q.key key) self.new }
-        ensures ahead { nodes_ahead arena.now self.new.at ≤ nodes_ahead arena.now self.old.at }
-        ensures going { self.old.at ≢ None → self.new.at ≢ None }
+    fn past_siblings<V>(&self, arena: &NodeArena<V>, from: NodeId, b: u8) -> NodeId
+        requires { (to : ℕ) → IsRun arena.now.nodes b from to
+            → to < length arena.now.nodes.items }
+        ensures { IsRun arena.now.nodes b from result }
     {
-        let Some(id) = self.at.get() else {
-            return;
-        };
-        let b = self.rest(key).as_bytes()[0];
         if self.first < b {
-            let to = arena.nodes.run(id, b);
-            self.go_to(Link::some(to));
-            self.first = arena.nodes.first_byte(to);
+            arena.nodes.run(from, b)
+        } else {
+            from
         }
-    }
-
-    // Waits for the label of the node there, if it is compared with the key and has more than a
-    // byte.
-    #[inline(always)]
-    fn wait<Q: BorrowedBytes, V>(&mut self, arena: &NodeArena<V>, key: Q)
-        requires whole { IsWellFormed arena.now }
-        requires siblings { IsCanonical Q.Owned.item (siblings_of arena.now) }
-        requires key { IsFind Q.Owned.item arena.now (Q.key key) self.old }
-        ensures { self.new ≡ record self.old { waits = self.new.waits } }
-    {
-        let Some(id) = self.at.get() else {
-            return;
-        };
-        let b = self.rest(key).as_bytes()[0];
-        self.waits = self.first == b && arena.nodes.short_len(id) != 1;
     }
 
     // Keeps a node that was passed as that of the longest prefix so far, where that is asked for
@@ -191,27 +174,33 @@ impl Lookup {
         }
     }
 
-    /// Goes to the sibling of the node there, to its children, or to the end.
+    // Goes from a node to its sibling, to its children, or to the end. What is left of the key there
+    // is given.
     #[inline(always)]
-    pub fn step<Q: BorrowedBytes, V>(&mut self, arena: &NodeArena<V>, key: Q, by_prefix: bool)
+    fn step<Q: BorrowedBytes, V>(
+        &mut self,
+        arena: &NodeArena<V>,
+        key: Q,
+        id: NodeId,
+        rest: Q,
+        by_prefix: bool,
+    )
         requires whole { IsWellFormed arena.now }
         requires siblings { IsCanonical Q.Owned.item (siblings_of arena.now) }
-        requires key { IsLookup Q.Owned.item arena.now by_prefix (Q.key key) self.old }
+        requires rest { Q.key rest ≡ drop self.old.passed (Q.key key) }
+        requires key { IsLookup Q.Owned.item arena.now by_prefix (Q.key key)
+            (record self.old { at = Some id }) }
         ensures key { IsLookup Q.Owned.item arena.now by_prefix (Q.key key) self.new }
-        ensures ahead { self.old.at ≢ None
-            → nodes_ahead arena.now self.new.at < nodes_ahead arena.now self.old.at }
+        ensures ahead { nodes_ahead arena.now self.new.at < nodes_ahead arena.now (Some id) }
     {
-        let Some(id) = self.at.get() else {
-            return;
-        };
-        match arena.compare(id, self.rest(key)) {
+        match arena.compare(id, rest) {
             LabelCmp::Before => self.end_at(Link::none()),
             LabelCmp::After => self.go_to(arena.nodes.sibling(id)),
             LabelCmp::Partial(_) => self.end_at(Link::none()),
-            LabelCmp::Full(rest) => {
-                let passed = key.as_bytes().len() - rest.as_bytes().len();
+            LabelCmp::Full(left) => {
+                let passed = key.as_bytes().len() - left.as_bytes().len();
                 self.keep(arena, id, passed, by_prefix);
-                if rest.is_empty() {
+                if left.is_empty() {
                     // for the proof alone: there are no more nodes than links can say
                     let _few = arena.nodes.len();
                     self.end_at(Link::some(id));
@@ -223,36 +212,62 @@ impl Lookup {
         }
     }
 
-    /// Goes on, but where the look-up waits for a label then. The head of the node there was read.
+    /// Goes on, but where the look-up waits for a label then, and returns whether it does. The head
+    /// of the node there was read.
     #[inline(always)]
-    pub fn go<Q: BorrowedBytes, V>(&mut self, arena: &NodeArena<V>, key: Q, by_prefix: bool)
+    pub fn go<Q: BorrowedBytes, V>(&mut self, arena: &NodeArena<V>, key: Q, by_prefix: bool) -> bool
         requires whole { IsWellFormed arena.now }
         requires siblings { IsCanonical Q.Owned.item (siblings_of arena.now) }
         requires key { IsLookup Q.Owned.item arena.now by_prefix (Q.key key) self.old }
         ensures { IsLookup Q.Owned.item arena.now by_prefix (Q.key key) self.new }
     {
-        self.pass_siblings(arena, key);
-        self.wait(arena, key);
-        if !self.waits {
-            self.step(arena, key, by_prefix);
+        let Some(from) = self.at.get() else {
+            return false;
+        };
+        let left = self.rest(key);
+        let b = left.as_bytes()[0];
+        let id = self.past_siblings(arena, from, b);
+        if needs_label(arena, id, b) {
+            // for the proof alone: there are no more nodes than links can say
+            let _few = arena.nodes.len();
+            self.at = Link::some(id);
+            return true;
         }
+        self.step(arena, key, id, left, by_prefix);
+        false
     }
 
-    /// Goes on where it waited for a label.
+    /// Goes on by a node. Its head was read, or its label.
     #[inline(always)]
-    pub fn go_past_label<Q: BorrowedBytes, V>(
-        &mut self,
-        arena: &NodeArena<V>,
-        key: Q,
-        by_prefix: bool,
-    )
+    pub fn advance<Q: BorrowedBytes, V>(&mut self, arena: &NodeArena<V>, key: Q, by_prefix: bool)
+        requires whole { IsWellFormed arena.now }
+        requires siblings { IsCanonical Q.Owned.item (siblings_of arena.now) }
+        requires key { IsLookup Q.Owned.item arena.now by_prefix (Q.key key) self.old }
+        ensures key { IsLookup Q.Owned.item arena.now by_prefix (Q.key key) self.new }
+        ensures ahead { self.old.at ≢ None
+            → nodes_ahead arena.now self.new.at < nodes_ahead arena.now self.old.at }
+    {
+        let Some(from) = self.at.get() else {
+            return;
+        };
+        let left = self.rest(key);
+        let b = left.as_bytes()[0];
+        let to = self.past_siblings(arena, from, b);
+        self.step(arena, key, to, left, by_prefix);
+    }
+
+    // Passes the rows at the top.
+    fn pass_top<Q: BorrowedBytes, V>(&mut self, arena: &NodeArena<V>, key: Q, by_prefix: bool)
         requires whole { IsWellFormed arena.now }
         requires siblings { IsCanonical Q.Owned.item (siblings_of arena.now) }
         requires key { IsLookup Q.Owned.item arena.now by_prefix (Q.key key) self.old }
         ensures { IsLookup Q.Owned.item arena.now by_prefix (Q.key key) self.new }
     {
-        if self.waits {
-            self.step(arena, key, by_prefix);
+        let mut rows = 0;
+        while rows < TOP_ROWS && self.goes_on() {
+            self.read_head(arena);
+            self.advance(arena, key, by_prefix);
+            rows += 1;
         }
     }
 
@@ -266,8 +281,7 @@ impl Lookup {
     {
         while self.goes_on() {
             self.read_head(arena);
-            self.pass_siblings(arena, key);
-            self.step(arena, key, by_prefix);
+            self.advance(arena, key, by_prefix);
         }
     }
 

@@ -1,6 +1,6 @@
 //! Look-ups side by side, in stages: a look-up waits for memory most of its time, and the waits
 //! overlap.
-ghost use Rattle.std.specs.Prelude.{◌≡◌, ◌≤◌, Bool, false, length};
+ghost use Rattle.std.specs.Prelude.{◌≡◌, ◌+◌, ◌≤◌, Bool, false, length};
 ghost use Rattle.std.specs.Prelude.{map as list_map};
 ghost use Rattle.patricia_model.specs.Siblings.{IsCanonical};
 ghost use Rattle.patricia_nodes.specs.Internal.Plans.{IsWellFormed, siblings_of};
@@ -54,7 +54,7 @@ fn read_heads<Q: BorrowedBytes, V>(
     }
 }
 
-// Reads the labels for which the look-ups at these places wait, in the same way.
+// Reads the labels of the nodes where the look-ups at these places are, in the same way.
 #[inline(never)]
 fn read_labels<Q: BorrowedBytes, V>(
     arena: &NodeArena<V>,
@@ -82,81 +82,79 @@ fn read_labels<Q: BorrowedBytes, V>(
     }
 }
 
-// The look-ups at these places go on, up to a label for which they wait. Writes the places of those
-// that wait to the front of a list, and returns how many they are.
+// The look-ups at these places go on, up to a label for which they wait. Leaves at the front the
+// places of those that are not at their ends and do not wait, and writes the places of those that
+// wait to the front of a list. Returns how many both are.
 fn go_to_labels<Q: BorrowedBytes, V>(
     arena: &NodeArena<V>,
     keys: &[Q],
     by_prefix: bool,
-    places: &[u8],
+    places: &mut [u8],
     lookups: &mut [Lookup],
     waiting: &mut [u8],
-) -> usize
+) -> (usize, usize)
     requires whole { IsWellFormed arena.now }
     requires siblings { IsCanonical Q.Owned.item (siblings_of arena.now) }
     requires as_many { length keys.now ≡ length lookups.old }
-    requires room { length places.now ≤ length waiting.old }
+    requires room { length places.old ≤ length waiting.old }
     requires keys { AreLookups Q.Owned.item arena.now by_prefix
         (list_map Q.key keys.now) lookups.old }
     ensures as_many { length lookups.new ≡ length lookups.old }
     ensures keys { AreLookups Q.Owned.item arena.now by_prefix
         (list_map Q.key keys.now) lookups.new }
+    ensures as_many_places { length places.new ≡ length places.old }
     ensures room { length waiting.new ≡ length waiting.old }
-    ensures few { result ≤ length places.now }
+    ensures few { result.0 + result.1 ≤ length places.old }
 {
+    let mut going = 0;
     let mut count = 0;
     let mut i = 0;
     while i < places.len() {
-        let k = places[i] as usize;
+        let place = places[i];
+        let k = place as usize;
         if k < keys.len() {
-            lookups[k].go(arena, keys[k], by_prefix);
-            waiting[count] = places[i];
-            count += lookups[k].waits() as usize;
+            let waits = lookups[k].go(arena, keys[k], by_prefix);
+            let goes_on = lookups[k].goes_on_at_once(waits);
+            waiting[count] = place;
+            count += waits as usize;
+            places[going] = place;
+            going += goes_on as usize;
         }
         i += 1;
     }
-    count
+    (going, count)
 }
 
-// The look-ups at these places, which waited for a label, go on.
+// The look-ups at these places, which waited for a label, go on. Writes the places of those that
+// are then not at their ends to the front of a list, and returns how many they are.
 fn go_past_labels<Q: BorrowedBytes, V>(
     arena: &NodeArena<V>,
     keys: &[Q],
     by_prefix: bool,
-    places: &[u8],
+    waiting: &[u8],
     lookups: &mut [Lookup],
-)
+    places: &mut [u8],
+) -> usize
     requires whole { IsWellFormed arena.now }
     requires siblings { IsCanonical Q.Owned.item (siblings_of arena.now) }
     requires as_many { length keys.now ≡ length lookups.old }
+    requires room { length waiting.now ≤ length places.old }
     requires keys { AreLookups Q.Owned.item arena.now by_prefix
         (list_map Q.key keys.now) lookups.old }
     ensures as_many { length lookups.new ≡ length lookups.old }
     ensures keys { AreLookups Q.Owned.item arena.now by_prefix
         (list_map Q.key keys.now) lookups.new }
-{
-    let mut i = 0;
-    while i < places.len() {
-        let k = places[i] as usize;
-        if k < keys.len() {
-            lookups[k].go_past_label(arena, keys[k], by_prefix);
-        }
-        i += 1;
-    }
-}
-
-// Leaves of some places at the front those whose look-ups are not at their ends, and returns how
-// many they are.
-fn keep_going(lookups: &[Lookup], places: &mut [u8]) -> usize
-    ensures as_many { length places.new ≡ length places.old }
-    ensures few { result ≤ length places.old }
+    ensures as_many_places { length places.new ≡ length places.old }
+    ensures few { result ≤ length waiting.now }
 {
     let mut count = 0;
     let mut i = 0;
-    while i < places.len() {
-        let k = places[i] as usize;
-        if k < lookups.len() {
-            places[count] = places[i];
+    while i < waiting.len() {
+        let place = waiting[i];
+        let k = place as usize;
+        if k < keys.len() {
+            lookups[k].advance(arena, keys[k], by_prefix);
+            places[count] = place;
             count += lookups[k].goes_on() as usize;
         }
         i += 1;
@@ -188,10 +186,11 @@ fn go_all<Q: BorrowedBytes, V>(
     ensures as_many_places { length places.new ≡ length places.old }
 {
     read_heads(arena, keys, places, lookups);
-    let count = go_to_labels(arena, keys, by_prefix, places, lookups, waiting);
-    read_labels(arena, keys, &waiting[..count], lookups);
-    go_past_labels(arena, keys, by_prefix, &waiting[..count], lookups);
-    keep_going(lookups, places)
+    let (going, count) = go_to_labels(arena, keys, by_prefix, places, lookups, waiting);
+    let due = &waiting[..count];
+    read_labels(arena, keys, due, lookups);
+    let behind = &mut places[going..];
+    going + go_past_labels(arena, keys, by_prefix, due, lookups, behind)
 }
 
 // All look-ups go on to their ends, side by side until few are left.
@@ -235,17 +234,22 @@ fn finish_all<Q: BorrowedBytes, V>(
 }
 
 // Begins the look-ups of keys.
-fn start_all<Q: BorrowedBytes, V>(arena: &NodeArena<V>, keys: &[Q], lookups: &mut [Lookup])
+fn start_all<Q: BorrowedBytes, V>(
+    arena: &NodeArena<V>,
+    keys: &[Q],
+    by_prefix: bool,
+    lookups: &mut [Lookup],
+)
     requires whole { IsWellFormed arena.now }
     requires siblings { IsCanonical Q.Owned.item (siblings_of arena.now) }
     requires as_many { length keys.now ≡ length lookups.old }
     ensures as_many { length lookups.new ≡ length lookups.old }
-    ensures keys { (by_prefix : Bool)
-        → AreLookups Q.Owned.item arena.now by_prefix (list_map Q.key keys.now) lookups.new }
+    ensures keys { AreLookups Q.Owned.item arena.now by_prefix
+        (list_map Q.key keys.now) lookups.new }
 {
     let mut k = 0;
     while k < keys.len() {
-        lookups[k].start(arena, keys[k]);
+        lookups[k].start(arena, keys[k], by_prefix);
         k += 1;
     }
 }
@@ -266,6 +270,6 @@ pub fn look_up<Q: BorrowedBytes, V>(
         (list_map Q.key keys.now) lookups.new }
     ensures ended { AreEndedTo (length keys.now) lookups.new }
 {
-    start_all(arena, keys, lookups);
+    start_all(arena, keys, by_prefix, lookups);
     finish_all(arena, keys, by_prefix, lookups);
 }

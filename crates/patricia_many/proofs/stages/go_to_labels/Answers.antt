@@ -1,29 +1,31 @@
-use Rattle.std.proofs.Common.{◌∙◌, length-set, arith}
+use Rattle.std.proofs.Common.{◌+◌, ◌≤◌, ◌∙◌, length-set, subst, sym, arith}
 use Rattle.patricia_many.specs.Internal.Lookups.{IsLookup}
-use Rattle.patricia_many.proofs.StageLemmas.{few_more, looks_up, one_goes_on}
+use Rattle.patricia_many.proofs.StageLemmas.{few_apart, looks_up, one_goes_on}
 use Rattle.patricia_many.proofs.stages.go_to_labels.Goals as goal
 use Rattle.patricia_many.proofs.stages.go_to_labels.Goals.{then-k-keys, else-k-keys}
 
-pub go-requires-clause-key : goal.go-requires-clause-key
-go-requires-clause-key g c =
+pub go-waits-requires-clause-key : goal.go-waits-requires-clause-key
+go-waits-requires-clause-key g c =
     looks_up (IsLookup g.Q.Owned.Bytes.item c.args.arena.now c.args.by_prefix) g.Q.BorrowedBytes.key c.args.keys.now c.loop-i.lookups c.loop-i.invariant.0
     _ c.index-lookups-k.result (omega (arith, c.if-k-keys.true, c.loop-i.invariant.1, c.requires.as_many)) _ c.if-k-keys.true c.index-keys-k.is
 
 pub loop-i-preserved : goal.loop-i-preserved
 loop-i-preserved g c = elim c.if-k-keys.branch [
-  | then-k-keys w ↦ rw (w.lookups-is, w.waiting-is, w.count-is) (
+  | then-k-keys w ↦ rw (w.lookups-is, w.places-is, w.waiting-is, w.going-is, w.count-is) (
     one_goes_on (IsLookup g.Q.Owned.Bytes.item c.args.arena.now c.args.by_prefix) g.Q.BorrowedBytes.key c.args.keys.now c.loop-i.lookups c.loop-i.invariant.0
-        _ w.index-lookups-k.result (omega (arith, w.if-k-keys.true, c.loop-i.invariant.1, c.requires.as_many)) _ w.if-k-keys.true w.index-keys-k.is _ w.go.ensures,
+        _ w.index-lookups-k.result (omega (arith, w.if-k-keys.true, c.loop-i.invariant.1, c.requires.as_many)) _ w.if-k-keys.true w.index-keys-k.is _ w.go-waits.ensures,
     length-set c.loop-i.lookups _ _ ∙ c.loop-i.invariant.1,
-    (length-set c.loop-i.waiting _ _ ∙ c.loop-i.invariant.2),
-    few_more c.loop-i.count c.loop-i.i w.waits.result c.loop-i.invariant.3,
-    omega (arith, c.loop-i-test.true),
+    length-set c.loop-i.places _ _ ∙ c.loop-i.invariant.2,
+    length-set c.loop-i.waiting _ _ ∙ c.loop-i.invariant.3,
+    few_apart c.loop-i.going c.loop-i.count c.loop-i.i w.goes_on_at_once-goes_on.result w.go-waits.result w.goes_on_at_once-goes_on.ensures c.loop-i.invariant.4,
+    subst (λ n. c.loop-i.i + 1 ≤ n) (sym (length-set c.loop-i.places c.loop-i.going _)) (omega (arith, c.loop-i-test.true)),
   )
-  | else-k-keys w ↦ rw (w.lookups-is, w.waiting-is, w.count-is) (
+  | else-k-keys w ↦ rw (w.lookups-is, w.places-is, w.waiting-is, w.going-is, w.count-is) (
     c.loop-i.invariant.0,
     c.loop-i.invariant.1,
     c.loop-i.invariant.2,
-    omega (arith, c.loop-i.invariant.3),
+    c.loop-i.invariant.3,
+    omega (arith, c.loop-i.invariant.4),
     omega (arith, c.loop-i-test.true),
   )
 ]

@@ -5,7 +5,7 @@ use Rattle.patricia_many.proofs.AheadLemmas.{ahead_top, ahead_top_empty, best_st
 use Rattle.patricia_many.proofs.lookup.Lookup.start.Goals as goal
 
 pub returns-then-is_empty : goal.returns-then-is_empty
-returns-then-is_empty g c by_prefix =
+returns-then-is_empty g c =
     rw (c.end_at.ensures, c.none.ensures) (
       starts_empty g.Q.Owned.Bytes.item g.met.Q.Owned.Bytes.lawful c.args.arena.now c.requires.whole c.requires.siblings _
           (c.if-is_empty.ensures.0 refl),
@@ -13,8 +13,8 @@ returns-then-is_empty g c by_prefix =
           (ahead_top_empty g.Q.Owned.Bytes.item g.met.Q.Owned.Bytes.lawful c.args.arena.now c.requires.siblings _ (c.if-is_empty.ensures.0 refl)),
     )
 
-pub returns-else-is_empty : goal.returns-else-is_empty
-returns-else-is_empty g c by_prefix =
+pub pass_top-requires-clause-key : goal.pass_top-requires-clause-key
+pass_top-requires-clause-key g c =
     rw c.go_to.ensures (
       starts g.Q.Owned.Bytes.item g.met.Q.Owned.Bytes.lawful c.args.arena.now c.requires.whole c.requires.siblings _
           (λ none. absurd (false≢true (c.if-is_empty.ensures.1 none))),
