@@ -1,11 +1,12 @@
 //! A look-up on its way, which goes on a node at a time.
 ghost use Rattle.std.specs.Prelude.{◌≡◌, ℕ, ◌<◌, ◌≤◌, ◌≢◌, ◌↔◌, [], None, Some, IfSome, vec_len};
-ghost use Rattle.std.specs.Prelude.{◌++◌, IsTrue, drop, false, length, take, true};
+ghost use Rattle.std.specs.Prelude.{◌++◌, IsTrue, drop, false, length, slice_index_or, take, true};
 ghost use Rattle.std.specs.Option.{option_copied, option_map};
 ghost use Rattle.std.specs.FinMap.{find};
 ghost use Rattle.patricia_keys.specs.Keys.{key_cmp, IsValid};
 ghost use Rattle.patricia_model.specs.Prefixes.{longest};
 ghost use Rattle.patricia_model.specs.Siblings.{own, IsCanonical};
+ghost use Rattle.patricia_model.specs.Internal.LabelCmp.{ComparesLabel};
 ghost use Rattle.patricia_nodes.specs.Internal.NodeVecs.{IsRun, ReadsNode};
 ghost use Rattle.patricia_nodes.specs.Internal.Plans.{IsWellFormed, siblings_of, entries_of};
 ghost use Rattle.patricia_many.specs.Internal.Lookups.{IsFind, IsLookup, KeepsBest, nodes_ahead};
@@ -19,13 +20,36 @@ use patricia_nodes::link::{Link, NodeId};
 // waits for memory.
 const TOP_ROWS: usize = 2;
 
-// Whether a key that begins with this byte is compared with the label of a node, and not with its
-// head alone.
+// How what is left of a key meets the label of a node, where the head of the node says so. The first
+// byte of the key is given.
 #[inline(always)]
-fn needs_label<V>(arena: &NodeArena<V>, id: NodeId, b: u8) -> bool
-    requires { id < length arena.now.nodes.items }
+fn compare_head<Q: BorrowedBytes, V>(
+    arena: &NodeArena<V>,
+    id: NodeId,
+    key: Q,
+    first: u8,
+) -> Option<LabelCmp<Q>>
+    requires within { id < length arena.now.nodes.items }
+    requires valid { ReadsNode arena.now.nodes id (λ n. IsValid Q.Owned.item n.label) }
+    requires nonempty { ReadsNode arena.now.nodes id (λ n. n.label ≢ []) }
+    requires key_valid { IsValid Q.Owned.item (Q.key key) }
+    requires key_filled { Q.key key ≢ [] }
+    requires first { first ≡ slice_index_or (Q.key key) 0 0 }
+    ensures { IfSome result (λ met. ReadsNode arena.now.nodes id
+        (λ n. ComparesLabel Q.Owned.item Q.key (Q.key key) n.label met)) }
 {
-    arena.nodes.first_byte(id) == b && arena.nodes.short_len(id) != 1
+    let other = arena.nodes.first_byte(id);
+    if first < other {
+        return Some(LabelCmp::Before);
+    }
+    if other < first {
+        return Some(LabelCmp::After);
+    }
+    let len = arena.nodes.short_len(id);
+    if len == 1 {
+        return Some(LabelCmp::Full(key.strip_n_prefix(1)));
+    }
+    None
 }
 
 /// A look-up on its way, or at its end.
@@ -174,26 +198,27 @@ impl Lookup {
         }
     }
 
-    // Goes from a node to its sibling, to its children, or to the end. What is left of the key there
-    // is given.
+    // Goes from a node to its sibling, to its children, or to the end. How what is left of the key
+    // meets the label of the node is given.
     #[inline(always)]
     fn step<Q: BorrowedBytes, V>(
         &mut self,
         arena: &NodeArena<V>,
         key: Q,
         id: NodeId,
-        rest: Q,
+        met: LabelCmp<Q>,
         by_prefix: bool,
     )
         requires whole { IsWellFormed arena.now }
         requires siblings { IsCanonical Q.Owned.item (siblings_of arena.now) }
-        requires rest { Q.key rest ≡ drop self.old.passed (Q.key key) }
+        requires met { ReadsNode arena.now.nodes id (λ n. ComparesLabel Q.Owned.item
+            Q.key (drop self.old.passed (Q.key key)) n.label met) }
         requires key { IsLookup Q.Owned.item arena.now by_prefix (Q.key key)
             (record self.old { at = Some id }) }
         ensures key { IsLookup Q.Owned.item arena.now by_prefix (Q.key key) self.new }
         ensures ahead { nodes_ahead arena.now self.new.at < nodes_ahead arena.now (Some id) }
     {
-        match arena.compare(id, rest) {
+        match met {
             LabelCmp::Before => self.end_at(Link::none()),
             LabelCmp::After => self.go_to(arena.nodes.sibling(id)),
             LabelCmp::Partial(_) => self.end_at(Link::none()),
@@ -227,14 +252,18 @@ impl Lookup {
         let left = self.rest(key);
         let b = left.as_bytes()[0];
         let id = self.past_siblings(arena, from, b);
-        if needs_label(arena, id, b) {
-            // for the proof alone: there are no more nodes than links can say
-            let _few = arena.nodes.len();
-            self.at = Link::some(id);
-            return true;
+        match compare_head(arena, id, left, b) {
+            Some(met) => {
+                self.step(arena, key, id, met, by_prefix);
+                false
+            }
+            None => {
+                // for the proof alone: there are no more nodes than links can say
+                let _few = arena.nodes.len();
+                self.at = Link::some(id);
+                true
+            }
         }
-        self.step(arena, key, id, left, by_prefix);
-        false
     }
 
     /// Goes on by a node. Its head was read, or its label.
@@ -253,7 +282,8 @@ impl Lookup {
         let left = self.rest(key);
         let b = left.as_bytes()[0];
         let to = self.past_siblings(arena, from, b);
-        self.step(arena, key, to, left, by_prefix);
+        let met = arena.compare(to, left);
+        self.step(arena, key, to, met, by_prefix);
     }
 
     // Passes the rows at the top.

@@ -1,5 +1,5 @@
 use Rattle.std.proofs.Common.{refl, sym, ◌∙◌, arith}
-use Rattle.patricia_many.proofs.LookupLemmas.{stands, at_inside, at_front, run_ends, run_fewer}
+use Rattle.patricia_many.proofs.LookupLemmas.{stands, stands_at, at_inside, at_front, at_within, at_valid, at_labelled, at_filled, run_ends, run_fewer, run_passes}
 use Rattle.patricia_many.proofs.AheadLemmas.{passes_on}
 use Rattle.patricia_many.proofs.lookup.Lookup.advance.Goals as goal
 
@@ -34,3 +34,42 @@ returns-clause-ahead g c going =
     let run = rw (c.as_bytes.ensures.value, c.rest-left.ensures) at c.past_siblings-to.ensures in
     let valid = rw c.rest-left.ensures at c.as_bytes.ensures.valid in
     omega (arith, run_fewer here valid _ run, c.step.ensures.ahead)
+
+pub compare-met-requires-clause-within : goal.compare-met-requires-clause-within
+compare-met-requires-clause-within g c =
+    let here = stands g.Q.Owned.Bytes.item g.met.Q.Owned.Bytes.lawful c.args.arena.now c.requires.whole c.requires.siblings
+    (g.Q.BorrowedBytes.key c.args.key) _ _ _ _ (sym c.get.ensures ∙ c.in-Some.is) c.requires.key.0 in
+    let run = rw (c.as_bytes.ensures.value, c.rest-left.ensures) at c.past_siblings-to.ensures in
+    let valid = rw c.rest-left.ensures at c.as_bytes.ensures.valid in
+    let there = stands_at g.Q.Owned.Bytes.item g.met.Q.Owned.Bytes.lawful c.args.arena.now c.requires.whole c.requires.siblings
+    (g.Q.BorrowedBytes.key c.args.key) c.args.self.now.passed c.past_siblings-to.result (run_passes here valid _ run) in
+    at_within there
+
+pub compare-met-requires-clause-valid : goal.compare-met-requires-clause-valid
+compare-met-requires-clause-valid g c n reads =
+    let here = stands g.Q.Owned.Bytes.item g.met.Q.Owned.Bytes.lawful c.args.arena.now c.requires.whole c.requires.siblings
+    (g.Q.BorrowedBytes.key c.args.key) _ _ _ _ (sym c.get.ensures ∙ c.in-Some.is) c.requires.key.0 in
+    let run = rw (c.as_bytes.ensures.value, c.rest-left.ensures) at c.past_siblings-to.ensures in
+    let valid = rw c.rest-left.ensures at c.as_bytes.ensures.valid in
+    let there = stands_at g.Q.Owned.Bytes.item g.met.Q.Owned.Bytes.lawful c.args.arena.now c.requires.whole c.requires.siblings
+    (g.Q.BorrowedBytes.key c.args.key) c.args.self.now.passed c.past_siblings-to.result (run_passes here valid _ run) in
+    at_valid there reads
+
+pub compare-met-requires-clause-nonempty : goal.compare-met-requires-clause-nonempty
+compare-met-requires-clause-nonempty g c n reads =
+    let here = stands g.Q.Owned.Bytes.item g.met.Q.Owned.Bytes.lawful c.args.arena.now c.requires.whole c.requires.siblings
+    (g.Q.BorrowedBytes.key c.args.key) _ _ _ _ (sym c.get.ensures ∙ c.in-Some.is) c.requires.key.0 in
+    let run = rw (c.as_bytes.ensures.value, c.rest-left.ensures) at c.past_siblings-to.ensures in
+    let valid = rw c.rest-left.ensures at c.as_bytes.ensures.valid in
+    let there = stands_at g.Q.Owned.Bytes.item g.met.Q.Owned.Bytes.lawful c.args.arena.now c.requires.whole c.requires.siblings
+    (g.Q.BorrowedBytes.key c.args.key) c.args.self.now.passed c.past_siblings-to.result (run_passes here valid _ run) in
+    at_labelled there reads
+
+pub compare-met-requires-clause-key_filled : goal.compare-met-requires-clause-key_filled
+compare-met-requires-clause-key_filled g c =
+    let here = stands g.Q.Owned.Bytes.item g.met.Q.Owned.Bytes.lawful c.args.arena.now c.requires.whole c.requires.siblings
+    (g.Q.BorrowedBytes.key c.args.key) _ _ _ _ (sym c.get.ensures ∙ c.in-Some.is) c.requires.key.0 in
+    rw c.rest-left.ensures (at_filled here)
+
+pub step-requires-clause-met : goal.step-requires-clause-met
+step-requires-clause-met g c n reads = rw c.rest-left.ensures at c.compare-met.ensures n reads

@@ -5,36 +5,12 @@ use Rattle.patricia_keys.proofs.KeyLemmas.{IsValid-append}
 use Rattle.patricia_model.specs.Siblings.{prefixed}
 use mathlib.Core.Bool.{false≢true}
 use Rattle.patricia_nodes.specs.declared.arena.seek.Match.TheVariants.{Absent, InsideLabel}
-use Rattle.patricia_many.proofs.LookupLemmas.{stands_at, at_node, at_within, at_valid, at_labelled, at_filled}
+use Rattle.patricia_many.proofs.LookupLemmas.{stands_at, at_node, at_within, at_valid}
 use Rattle.patricia_many.proofs.LookupLemmas.{at_inside, at_front, stops, stops_here, none_fewer}
 use Rattle.patricia_many.proofs.LookupLemmas.{goes_next, next_fewer, goes_down, down_fewer, left_fits, left_is, front_is}
 use Rattle.patricia_many.proofs.AheadLemmas.{ahead_before, ahead_down, ahead_next, ahead_none, ahead_within}
 use Rattle.patricia_many.proofs.AheadLemmas.{below_none, best_grows, best_stays}
 use Rattle.patricia_many.proofs.lookup.Lookup.step.Goals as goal
-
-pub compare-requires-clause-within : goal.compare-requires-clause-within
-compare-requires-clause-within g c =
-    let here = stands_at g.Q.Owned.Bytes.item g.met.Q.Owned.Bytes.lawful c.args.arena.now c.requires.whole c.requires.siblings
-    (g.Q.BorrowedBytes.key c.args.key) c.args.self.now.passed c.args.id c.requires.key.0 in
-    at_within here
-
-pub compare-requires-clause-valid : goal.compare-requires-clause-valid
-compare-requires-clause-valid g c n reads =
-    let here = stands_at g.Q.Owned.Bytes.item g.met.Q.Owned.Bytes.lawful c.args.arena.now c.requires.whole c.requires.siblings
-    (g.Q.BorrowedBytes.key c.args.key) c.args.self.now.passed c.args.id c.requires.key.0 in
-    at_valid here reads
-
-pub compare-requires-clause-nonempty : goal.compare-requires-clause-nonempty
-compare-requires-clause-nonempty g c n reads =
-    let here = stands_at g.Q.Owned.Bytes.item g.met.Q.Owned.Bytes.lawful c.args.arena.now c.requires.whole c.requires.siblings
-    (g.Q.BorrowedBytes.key c.args.key) c.args.self.now.passed c.args.id c.requires.key.0 in
-    at_labelled here reads
-
-pub compare-requires-clause-key_filled : goal.compare-requires-clause-key_filled
-compare-requires-clause-key_filled g c =
-    let here = stands_at g.Q.Owned.Bytes.item g.met.Q.Owned.Bytes.lawful c.args.arena.now c.requires.whole c.requires.siblings
-    (g.Q.BorrowedBytes.key c.args.key) c.args.self.now.passed c.args.id c.requires.key.0 in
-    rw c.requires.rest (at_filled here)
 
 pub sibling-requires : goal.sibling-requires
 sibling-requires g c =
@@ -60,9 +36,9 @@ returns-in-Before-clause-key g c =
     (g.Q.BorrowedBytes.key c.args.key) c.args.self.now.passed c.args.id c.requires.key.0 in
     let there = at_node here in
     rw (c.end_at.ensures, c.none.ensures) (
-      stops here there.1 Absent (rw c.requires.rest at c.in-Before.ensures _ there.1) refl,
+      stops here there.1 Absent (rw c.in-Before.is at c.requires.met _ there.1) refl,
       λ wants. best_stays g.Q.Owned.Bytes.item c.args.arena.now (g.Q.BorrowedBytes.key c.args.key) _ _ refl refl
-          (ahead_none c.args.arena.now (g.Q.BorrowedBytes.key c.args.key) c.args.self.now.passed ∙ sym (ahead_before here there.1 _ refl (rw c.requires.rest at c.in-Before.ensures _ there.1)))
+          (ahead_none c.args.arena.now (g.Q.BorrowedBytes.key c.args.key) c.args.self.now.passed ∙ sym (ahead_before here there.1 _ refl (rw c.in-Before.is at c.requires.met _ there.1)))
           (c.requires.key.1 wants),
     )
 
@@ -79,9 +55,9 @@ returns-in-Partial-clause-key g c =
     (g.Q.BorrowedBytes.key c.args.key) c.args.self.now.passed c.args.id c.requires.key.0 in
     let there = at_node here in
     rw (c.end_at-in-Partial.ensures, c.none-in-Partial.ensures) (
-      stops here there.1 (InsideLabel c.args.id c.in-Partial.field-0) (refl, rw c.requires.rest at c.in-Partial.ensures _ there.1) refl,
+      stops here there.1 (InsideLabel c.args.id c.in-Partial.field-0) (refl, rw c.in-Partial.is at c.requires.met _ there.1) refl,
       λ wants. best_stays g.Q.Owned.Bytes.item c.args.arena.now (g.Q.BorrowedBytes.key c.args.key) _ _ refl refl
-          (ahead_none c.args.arena.now (g.Q.BorrowedBytes.key c.args.key) c.args.self.now.passed ∙ sym (ahead_within here there.1 _ refl _ (rw c.requires.rest at c.in-Partial.ensures _ there.1)))
+          (ahead_none c.args.arena.now (g.Q.BorrowedBytes.key c.args.key) c.args.self.now.passed ∙ sym (ahead_within here there.1 _ refl _ (rw c.in-Partial.is at c.requires.met _ there.1)))
           (c.requires.key.1 wants),
     )
 
@@ -98,9 +74,9 @@ returns-in-After-clause-key g c =
     (g.Q.BorrowedBytes.key c.args.key) c.args.self.now.passed c.args.id c.requires.key.0 in
     let there = at_node here in
     rw (c.go_to.ensures, c.sibling.ensures.node _ there.1) (
-      goes_next here there.1 (rw c.requires.rest at c.in-After.ensures _ there.1),
+      goes_next here there.1 (rw c.in-After.is at c.requires.met _ there.1),
       λ wants. best_stays g.Q.Owned.Bytes.item c.args.arena.now (g.Q.BorrowedBytes.key c.args.key) _ _ refl refl
-          (ahead_next here there.1 _ refl (rw c.requires.rest at c.in-After.ensures _ there.1))
+          (ahead_next here there.1 _ refl (rw c.in-After.is at c.requires.met _ there.1))
           (c.requires.key.1 wants),
     )
 
@@ -116,7 +92,7 @@ returns-then-is_empty-clause-key g c =
     let here = stands_at g.Q.Owned.Bytes.item g.met.Q.Owned.Bytes.lawful c.args.arena.now c.requires.whole c.requires.siblings
     (g.Q.BorrowedBytes.key c.args.key) c.args.self.now.passed c.args.id c.requires.key.0 in
     let there = at_node here in
-    let passes = rw c.requires.rest at c.in-Full.ensures _ there.1 in
+    let passes = rw c.in-Full.is at c.requires.met _ there.1 in
     let inside = at_inside here _ refl in
     let front = front_is g.Q.Owned.Bytes.item (g.Q.BorrowedBytes.key c.args.key) _ _ _ _ _ passes inside
     c.as_bytes.ensures.value c.as_bytes-in-Full.ensures.value in
@@ -125,7 +101,7 @@ returns-then-is_empty-clause-key g c =
     let is = slice_get-get_or c.args.arena.now.nodes.items c.args.id there.0 (at_within here) ∙ ap Some (sym there.1) in
     let short : length c.as_bytes.result.now - length c.as_bytes-in-Full.result.now ≤ length (g.Q.BorrowedBytes.key c.args.key) = omega (arith, ap length c.as_bytes.ensures.value) in
     rw (c.end_at-then-is_empty.ensures, c.some.ensures) (
-      stops_here here there.1 (rw (c.requires.rest, c.if-is_empty.ensures.0 refl) at c.in-Full.ensures _ there.1),
+      stops_here here there.1 (rw (c.in-Full.is, c.if-is_empty.ensures.0 refl) at c.requires.met _ there.1),
       λ wants. best_grows g.Q.Owned.Bytes.item c.args.arena.now (g.Q.BorrowedBytes.key c.args.key) (record c.args.self.now { at = Some c.args.id }) c.args.self.now c.keep.new.self (record c.keep.new.self { at = None; end = Some c.args.id }) refl refl refl refl c.args.id _ there.0 is
           (at_within here) short valid (c.keep.ensures.best wants _ there.1) _
           (ahead_down here there.1 _ refl _ passes _ front)
@@ -145,7 +121,7 @@ returns-else-is_empty-clause-key g c =
     let here = stands_at g.Q.Owned.Bytes.item g.met.Q.Owned.Bytes.lawful c.args.arena.now c.requires.whole c.requires.siblings
     (g.Q.BorrowedBytes.key c.args.key) c.args.self.now.passed c.args.id c.requires.key.0 in
     let there = at_node here in
-    let passes = rw c.requires.rest at c.in-Full.ensures _ there.1 in
+    let passes = rw c.in-Full.is at c.requires.met _ there.1 in
     let inside = at_inside here _ refl in
     let front = front_is g.Q.Owned.Bytes.item (g.Q.BorrowedBytes.key c.args.key) _ _ _ _ _ passes inside
     c.as_bytes.ensures.value c.as_bytes-in-Full.ensures.value in
@@ -177,7 +153,7 @@ overflow_sub-passed g c =
     let here = stands_at g.Q.Owned.Bytes.item g.met.Q.Owned.Bytes.lawful c.args.arena.now c.requires.whole c.requires.siblings
     (g.Q.BorrowedBytes.key c.args.key) c.args.self.now.passed c.args.id c.requires.key.0 in
     let there = at_node here in
-    let passes = rw c.requires.rest at c.in-Full.ensures _ there.1 in
+    let passes = rw c.in-Full.is at c.requires.met _ there.1 in
     left_fits g.Q.Owned.Bytes.item (g.Q.BorrowedBytes.key c.args.key) _ _ _ _ _ passes
     c.as_bytes.ensures.value c.as_bytes-in-Full.ensures.value
 
