@@ -1,6 +1,7 @@
 //! What a cursor of the library has ahead.
 
 use crate::library::*;
+use crate::source::Source;
 use crate::tree::{need, out_of_memory};
 
 /// `patricia_cursor_next_many`, or the same on a handle.
@@ -18,7 +19,7 @@ pub(crate) type NextMany = unsafe extern "C" fn(
 ) -> u32;
 
 const FIRST_BLOCK: usize = 8;
-const LARGEST_BLOCK: usize = 128;
+const LARGEST_BLOCK: usize = 512;
 const ROOM_FOR_A_KEY: usize = 32;
 
 /// The keys that a cursor has ahead, which it reads from a tree in blocks, of few entries at
@@ -77,29 +78,20 @@ impl Ahead {
         &self.keys[self.start..self.end]
     }
 
-    /// Passes the next key of a map, and returns its number.
+    /// Passes the next key of the block.
+    fn pass(&mut self) {
+        self.start = self.end;
+        self.end += self.lens[self.passed];
+        self.passed += 1;
+    }
+
+    /// Reads the next block of a map's keys, and returns their numbers: none behind the last.
     ///
     /// # Safety
     ///
     /// The place holds what the call is for, the same in each call, to which no call writes
     /// meanwhile, and no key was inserted or removed since the first call.
-    pub(crate) unsafe fn next_in(&mut self, next: NextMany, map: *const Place) -> Option<u64> {
-        if self.passed == self.count && !self.read_block(next, map) {
-            return None;
-        }
-        let number = self.numbers[self.passed];
-        self.start = self.end;
-        self.end += self.lens[self.passed];
-        self.passed += 1;
-        Some(number)
-    }
-
-    /// Reads the next block, and returns whether there is one.
-    ///
-    /// # Safety
-    ///
-    /// As for `next_in`.
-    unsafe fn read_block(&mut self, next: NextMany, map: *const Place) -> bool {
+    pub(crate) unsafe fn read_block(&mut self, next: NextMany, map: *const Place) -> &[u64] {
         let most = (self.count * 4).clamp(FIRST_BLOCK, LARGEST_BLOCK);
         self.lens.resize(most, 0);
         self.numbers.resize(most, 0);
@@ -124,7 +116,7 @@ impl Ahead {
             match result {
                 NO_ROOM => self.keys.resize(key_len, 0),
                 NO_MEMORY => out_of_memory(),
-                _ => return result == FOUND,
+                _ => return &self.numbers[..self.count],
             }
         }
     }
@@ -134,5 +126,38 @@ impl Drop for Ahead {
     fn drop(&mut self) {
         // SAFETY: the place is as the last call left it.
         unsafe { patricia_cursor_free(&mut self.place) }
+    }
+}
+
+/// The entries that are ahead, each with what is taken for its number: for a whole block at once,
+/// so that it is waited for many values in memory together.
+pub(crate) struct Entries<T> {
+    ahead: Ahead,
+    /// What was taken for entries of the block that were not passed, for the next one last.
+    taken: Vec<T>,
+}
+
+impl<T> Entries<T> {
+    pub(crate) fn new(ahead: Ahead) -> Self {
+        Entries {
+            ahead,
+            taken: Vec::new(),
+        }
+    }
+
+    /// The key that was passed last.
+    pub(crate) fn key(&self) -> &[u8] {
+        self.ahead.key()
+    }
+
+    /// Passes the next entry, and returns what was taken for its number.
+    pub(crate) fn next(&mut self, source: Source<'_>, mut take: impl FnMut(u64) -> T) -> Option<T> {
+        if self.taken.is_empty() {
+            let numbers = source.read_block(&mut self.ahead).iter().rev();
+            self.taken.extend(numbers.map(|number| take(*number)));
+        }
+        let taken = self.taken.pop()?;
+        self.ahead.pass();
+        Some(taken)
     }
 }

@@ -199,10 +199,10 @@ impl<'a> Source<'a> {
         count
     }
 
-    /// Passes the next key that is ahead, and returns its number.
-    pub(crate) fn next(self, ahead: &mut Ahead) -> Option<u64> {
+    /// Reads the next block of keys that are ahead, and returns their numbers: none behind the last.
+    pub(crate) fn read_block(self, ahead: &mut Ahead) -> &[u64] {
         // SAFETY: as in `len`.
-        unsafe { ahead.next_in(self.calls.cursor_next_many, self.place) }
+        unsafe { ahead.read_block(self.calls.cursor_next_many, self.place) }
     }
 
     /// The encoding of the keys, which are texts where the form is that of texts.

@@ -1,6 +1,6 @@
 //! Walks over the numbers of a tree, with the values that lie under them.
 
-use crate::entries::Ahead;
+use crate::entries::{Ahead, Entries};
 use crate::slab::Slab;
 use crate::source::Source;
 use crate::tree::Tree;
@@ -9,7 +9,7 @@ use crate::tree::Tree;
 pub(crate) struct Walk<'a, V> {
     source: Source<'a>,
     values: &'a Slab<V>,
-    ahead: Ahead,
+    entries: Entries<&'a V>,
 }
 
 impl<'a, V> Walk<'a, V> {
@@ -17,26 +17,32 @@ impl<'a, V> Walk<'a, V> {
         Walk {
             source,
             values,
-            ahead,
+            entries: Entries::new(ahead),
         }
     }
 
     /// The key that was passed last.
     pub(crate) fn key(&self) -> &[u8] {
-        self.ahead.key()
+        self.entries.key()
     }
 
     pub(crate) fn next(&mut self) -> Option<&'a V> {
-        let number = self.source.next(&mut self.ahead)?;
-        Some(self.values.get(number))
+        let values = self.values;
+        self.entries.next(self.source, |number| values.get(number))
     }
+}
+
+/// Takes the value under a number.
+fn take<T>(values: &mut [Option<T>], number: u64) -> T {
+    let value = values[number as usize].take();
+    value.expect("each number is of one key")
 }
 
 /// A walk over entries, in key order, which lends each value to be changed.
 pub(crate) struct WalkMut<'a, V> {
     source: Source<'a>,
     values: Vec<Option<&'a mut V>>,
-    ahead: Ahead,
+    entries: Entries<&'a mut V>,
 }
 
 impl<'a, V> WalkMut<'a, V> {
@@ -44,43 +50,44 @@ impl<'a, V> WalkMut<'a, V> {
         WalkMut {
             source,
             values: values.lent(),
-            ahead,
+            entries: Entries::new(ahead),
         }
     }
 
     pub(crate) fn key(&self) -> &[u8] {
-        self.ahead.key()
+        self.entries.key()
     }
 
     pub(crate) fn next(&mut self) -> Option<&'a mut V> {
-        let number = self.source.next(&mut self.ahead)?;
-        let value = self.values[number as usize].take();
-        Some(value.expect("each number is of one key"))
+        let values = &mut self.values;
+        self.entries
+            .next(self.source, |number| take(values, number))
     }
 }
 
 /// A walk over the entries of a tree that it owns, in key order, which takes each value.
 pub(crate) struct Taken<V> {
     tree: Tree,
-    values: Slab<V>,
-    ahead: Ahead,
+    values: Vec<Option<V>>,
+    entries: Entries<V>,
 }
 
 impl<V> Taken<V> {
     pub(crate) fn new(tree: Tree, values: Slab<V>) -> Self {
         Taken {
             tree,
-            values,
-            ahead: Ahead::new(&[], 0),
+            values: values.into_values(),
+            entries: Entries::new(Ahead::new(&[], 0)),
         }
     }
 
     pub(crate) fn key(&self) -> &[u8] {
-        self.ahead.key()
+        self.entries.key()
     }
 
     pub(crate) fn next(&mut self) -> Option<V> {
-        let number = self.tree.source().next(&mut self.ahead)?;
-        Some(self.values.remove(number))
+        let values = &mut self.values;
+        self.entries
+            .next(self.tree.source(), |number| take(values, number))
     }
 }
