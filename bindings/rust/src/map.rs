@@ -99,7 +99,7 @@ impl<K: Bytes, V> GenericPatriciaMap<K, V> {
     /// Removes the entries whose key begins with the prefix, and returns them as a map.
     pub fn split_by_prefix<Q: AsRef<K::Borrowed>>(&mut self, prefix: Q) -> Self {
         let mut part = Self::of(self.tree.split(prefix.as_ref().as_bytes()), Slab::new());
-        let mut entries = Entries::new(Ahead::new(&[], 0));
+        let mut entries = Entries::<Vec<u8>, _>::new(Ahead::new(&[], 0));
         while let Some(value) = entries.next(part.source(), |number| self.values.remove(number)) {
             let moved = part.values.insert(value);
             part.tree.insert(entries.key(), moved);
@@ -126,7 +126,7 @@ impl<K: Bytes, V> GenericPatriciaMap<K, V> {
     /// Removes the entries whose key begins with the prefix, and returns how many they were.
     pub fn remove_prefix<Q: AsRef<K::Borrowed>>(&mut self, prefix: Q) -> usize {
         let prefix = prefix.as_ref().as_bytes();
-        let mut entries = Entries::new(Ahead::new(prefix, prefix.len()));
+        let mut entries = Entries::<Vec<u8>, _>::new(Ahead::new(prefix, prefix.len()));
         let mut removed = Vec::new();
         let source = self.tree.source();
         while let Some(value) = entries.next(source, |number| self.values.remove(number)) {
@@ -136,7 +136,7 @@ impl<K: Bytes, V> GenericPatriciaMap<K, V> {
         self.tree.remove_under(prefix)
     }
 
-    fn walk_mut(&mut self, prefix: &[u8]) -> WalkMut<'_, V> {
+    fn walk_mut<T: Bytes>(&mut self, prefix: &[u8]) -> WalkMut<'_, T, V> {
         let ahead = Ahead::new(prefix, prefix.len());
         WalkMut::new(self.tree.source(), &mut self.values, ahead)
     }

@@ -1,6 +1,7 @@
 //! What can be read: a map of the library, or a handle of one that is shared.
 
 use crate::entries::{Ahead, NextMany};
+use crate::key::Bytes;
 use crate::library::*;
 use crate::tree::{need, out_of_memory, Form, TooDeep};
 
@@ -200,7 +201,7 @@ impl<'a> Source<'a> {
     }
 
     /// Reads the next block of keys that are ahead, and returns their numbers: none behind the last.
-    pub(crate) fn read_block(self, ahead: &mut Ahead) -> &[u64] {
+    pub(crate) fn read_block<K: Bytes>(self, ahead: &mut Ahead<K>) -> &[u64] {
         // SAFETY: as in `len`.
         unsafe { ahead.read_block(self.calls.cursor_next_many, self.place) }
     }

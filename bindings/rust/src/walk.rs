@@ -1,19 +1,20 @@
 //! Walks over the numbers of a tree, with the values that lie under them.
 
 use crate::entries::{Ahead, Entries};
+use crate::key::Bytes;
 use crate::slab::Slab;
 use crate::source::Source;
 use crate::tree::Tree;
 
 /// A walk over entries, in key order, which lends each value.
-pub(crate) struct Walk<'a, V> {
+pub(crate) struct Walk<'a, K, V> {
     source: Source<'a>,
     values: &'a Slab<V>,
-    entries: Entries<&'a V>,
+    entries: Entries<K, &'a V>,
 }
 
-impl<'a, V> Walk<'a, V> {
-    pub(crate) fn new(source: Source<'a>, values: &'a Slab<V>, ahead: Ahead) -> Self {
+impl<'a, K: Bytes, V> Walk<'a, K, V> {
+    pub(crate) fn new(source: Source<'a>, values: &'a Slab<V>, ahead: Ahead<K>) -> Self {
         Walk {
             source,
             values,
@@ -22,7 +23,7 @@ impl<'a, V> Walk<'a, V> {
     }
 
     /// The key that was passed last.
-    pub(crate) fn key(&self) -> &[u8] {
+    pub(crate) fn key(&self) -> &K::Borrowed {
         self.entries.key()
     }
 
@@ -39,14 +40,14 @@ fn take<T>(values: &mut [Option<T>], number: u64) -> T {
 }
 
 /// A walk over entries, in key order, which lends each value to be changed.
-pub(crate) struct WalkMut<'a, V> {
+pub(crate) struct WalkMut<'a, K, V> {
     source: Source<'a>,
     values: Vec<Option<&'a mut V>>,
-    entries: Entries<&'a mut V>,
+    entries: Entries<K, &'a mut V>,
 }
 
-impl<'a, V> WalkMut<'a, V> {
-    pub(crate) fn new(source: Source<'a>, values: &'a mut Slab<V>, ahead: Ahead) -> Self {
+impl<'a, K: Bytes, V> WalkMut<'a, K, V> {
+    pub(crate) fn new(source: Source<'a>, values: &'a mut Slab<V>, ahead: Ahead<K>) -> Self {
         WalkMut {
             source,
             values: values.lent(),
@@ -54,7 +55,7 @@ impl<'a, V> WalkMut<'a, V> {
         }
     }
 
-    pub(crate) fn key(&self) -> &[u8] {
+    pub(crate) fn key(&self) -> &K::Borrowed {
         self.entries.key()
     }
 
@@ -66,13 +67,13 @@ impl<'a, V> WalkMut<'a, V> {
 }
 
 /// A walk over the entries of a tree that it owns, in key order, which takes each value.
-pub(crate) struct Taken<V> {
+pub(crate) struct Taken<K, V> {
     tree: Tree,
     values: Vec<Option<V>>,
-    entries: Entries<V>,
+    entries: Entries<K, V>,
 }
 
-impl<V> Taken<V> {
+impl<K: Bytes, V> Taken<K, V> {
     pub(crate) fn new(tree: Tree, values: Slab<V>) -> Self {
         Taken {
             tree,
@@ -81,7 +82,7 @@ impl<V> Taken<V> {
         }
     }
 
-    pub(crate) fn key(&self) -> &[u8] {
+    pub(crate) fn key(&self) -> &K::Borrowed {
         self.entries.key()
     }
 
