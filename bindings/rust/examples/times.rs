@@ -3,13 +3,15 @@
 //!     python3 tests/bench/keys.py titles 200000 1 > keys
 //!     cargo run --release --example times < keys
 //!
-//! A figure is the least of three, in nanoseconds of processor time an entry or a call. `iter` and
-//! `iter_prefix` make each key; std's map clones it for that.
+//! A figure is the least of three, in nanoseconds of processor time an entry or a call: first of
+//! maps that were collected, and then of maps into which each key was inserted. std's map clones
+//! the keys that ours makes, and lends them beside a cursor.
 
 use patricia::StringPatriciaMap;
 use std::collections::BTreeMap;
 use std::hint::black_box;
 use std::io::{self, BufRead};
+use std::iter;
 use std::os::raw::c_long;
 
 extern "C" {
@@ -44,34 +46,26 @@ fn under(keys: &[String], mut entries: impl FnMut(&str) -> usize) -> usize {
     prefixes.map(|prefix| entries(prefix)).sum()
 }
 
-fn entries<M: FromIterator<(String, usize)>>(keys: &[String]) -> M {
-    keys.iter().cloned().zip(0..).collect()
+fn entries(keys: &[String]) -> impl Iterator<Item = (String, usize)> + '_ {
+    keys.iter().cloned().zip(0..)
 }
 
-fn main() {
-    let lines = io::stdin().lock().lines();
-    let keys: Vec<String> = lines.collect::<Result<_, _>>().expect("lines of UTF-8");
-    let mut std: BTreeMap<String, usize> = entries(&keys);
-    let mut ours: StringPatriciaMap<usize> = entries(&keys);
-    println!(
-        "| {} keys, ns | std's BTreeMap | patricia |\n|---|---|---|",
-        keys.len()
-    );
-    let made = |call: &dyn Fn() -> usize| time(call);
-    row(
-        "insert",
-        made(&|| entries::<BTreeMap<_, _>>(&keys).len()),
-        made(&|| entries::<StringPatriciaMap<_>>(&keys).len()),
-    );
+fn collected<M: FromIterator<(String, usize)>>(keys: &[String]) -> M {
+    entries(keys).collect()
+}
+
+fn inserted<M: Default + Extend<(String, usize)>>(keys: &[String]) -> M {
+    let mut map = M::default();
+    map.extend(entries(keys));
+    map
+}
+
+/// The lines of maps that were filled in one way.
+fn rows(keys: &[String], std: &mut BTreeMap<String, usize>, ours: &mut StringPatriciaMap<usize>) {
     row(
         "get",
         time(|| count(keys.iter().map(|key| std.get(key)))),
         time(|| count(keys.iter().map(|key| ours.get(key)))),
-    );
-    row(
-        "iter",
-        time(|| count(std.iter().map(|(key, value)| (key.clone(), value)))),
-        time(|| count(ours.iter())),
     );
     row(
         "values",
@@ -79,19 +73,50 @@ fn main() {
         time(|| count(ours.values())),
     );
     row(
+        "iter, a cursor",
+        time(|| count(std.iter())),
+        time(|| {
+            let mut cursor = ours.cursor();
+            count(iter::from_fn(|| cursor.advance().then(|| cursor.value())))
+        }),
+    );
+    row(
+        "iter, keys made",
+        time(|| count(std.iter().map(|(key, value)| (key.clone(), value)))),
+        time(|| count(ours.iter())),
+    );
+    row(
         "iter_prefix, an entry",
         time(|| {
-            under(&keys, |prefix| {
+            under(keys, |prefix| {
                 let from = std.range(prefix.to_string()..);
                 let within = from.take_while(|entry| entry.0.starts_with(prefix));
                 count(within.map(|(key, value)| (key.clone(), value)))
             })
         }),
-        time(|| under(&keys, |prefix| count(ours.iter_prefix(prefix)))),
+        time(|| under(keys, |prefix| count(ours.iter_prefix(prefix)))),
     );
     row(
-        "iter_mut",
+        "iter_mut, keys made",
         time(|| count(std.iter_mut().map(|(key, value)| (key.clone(), value)))),
         time(|| count(ours.iter_mut())),
     );
+}
+
+fn main() {
+    let lines = io::stdin().lock().lines();
+    let keys: Vec<String> = lines.collect::<Result<_, _>>().expect("lines of UTF-8");
+    println!("| {} keys, ns | std | ours |\n|---|---|---|", keys.len());
+    row(
+        "collect",
+        time(|| collected::<BTreeMap<_, _>>(&keys).len()),
+        time(|| collected::<StringPatriciaMap<_>>(&keys).len()),
+    );
+    rows(&keys, &mut collected(&keys), &mut collected(&keys));
+    row(
+        "insert",
+        time(|| inserted::<BTreeMap<_, _>>(&keys).len()),
+        time(|| inserted::<StringPatriciaMap<_>>(&keys).len()),
+    );
+    rows(&keys, &mut inserted(&keys), &mut inserted(&keys));
 }

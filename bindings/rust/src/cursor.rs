@@ -1,23 +1,17 @@
 //! Cursors over a map.
 
-use crate::key::{BorrowedBytes, Bytes};
+use crate::key::Bytes;
 use crate::walk::Walk;
-use std::marker::PhantomData;
 
 /// A cursor over entries, in key order, which lends each key and value in turn.
 pub struct Cursor<'a, K, V> {
-    walk: Walk<'a, V>,
+    walk: Walk<'a, K, V>,
     at: Option<&'a V>,
-    kind: PhantomData<fn() -> K>,
 }
 
 impl<'a, K: Bytes, V> Cursor<'a, K, V> {
-    pub(crate) fn new(walk: Walk<'a, V>) -> Self {
-        Cursor {
-            walk,
-            at: None,
-            kind: PhantomData,
-        }
+    pub(crate) fn new(walk: Walk<'a, K, V>) -> Self {
+        Cursor { walk, at: None }
     }
 
     /// Steps to the next entry, and returns whether there is one. Behind the last entry it stands
@@ -30,7 +24,7 @@ impl<'a, K: Bytes, V> Cursor<'a, K, V> {
     /// Lends the key at which the cursor stands; `None` before the first entry and behind the
     /// last.
     pub fn key(&self) -> Option<&K::Borrowed> {
-        self.at.map(|_| K::Borrowed::from_bytes(self.walk.key()))
+        self.at.map(|_| self.walk.key())
     }
 
     /// Lends the value at which the cursor stands; `None` before the first entry and behind the
@@ -43,6 +37,6 @@ impl<'a, K: Bytes, V> Cursor<'a, K, V> {
     pub fn next_entry(&mut self) -> Option<(K, &'a V)> {
         self.at = self.walk.next();
         let value = self.at?;
-        Some((K::from_vec(self.walk.key().to_vec()), value))
+        Some((self.walk.key().to_owned(), value))
     }
 }

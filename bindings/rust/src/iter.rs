@@ -5,7 +5,6 @@ use crate::slab::Slab;
 use crate::walk::{Taken, Walk, WalkMut};
 use std::fmt;
 use std::iter::FusedIterator;
-use std::marker::PhantomData;
 use std::vec;
 
 /// Debug of an iterator, which names its type alone.
@@ -25,25 +24,16 @@ debug_by_name!(
     IterPrefixMut<'a, K, V>, ValuesMut<'a, V>, IntoIter<K, V>,
 );
 
-fn owned<K: Bytes>(bytes: &[u8]) -> K {
-    K::from_vec(bytes.to_vec())
-}
-
 /// An iterator over the entries, in key order.
 pub struct Iter<'a, K, V> {
-    walk: Walk<'a, V>,
+    walk: Walk<'a, K, V>,
     left: usize,
-    kind: PhantomData<fn() -> K>,
 }
 
 impl<'a, K, V> Iter<'a, K, V> {
     /// So many entries are ahead of the walk.
-    pub(crate) fn new(walk: Walk<'a, V>, left: usize) -> Self {
-        Iter {
-            walk,
-            left,
-            kind: PhantomData,
-        }
+    pub(crate) fn new(walk: Walk<'a, K, V>, left: usize) -> Self {
+        Iter { walk, left }
     }
 }
 
@@ -53,7 +43,7 @@ impl<'a, K: Bytes, V> Iterator for Iter<'a, K, V> {
     fn next(&mut self) -> Option<Self::Item> {
         let value = self.walk.next()?;
         self.left -= 1;
-        Some((owned(self.walk.key()), value))
+        Some((self.walk.key().to_owned(), value))
     }
 
     fn size_hint(&self) -> (usize, Option<usize>) {
@@ -67,16 +57,12 @@ impl<K: Bytes, V> FusedIterator for Iter<'_, K, V> {}
 
 /// An iterator over the entries whose key begins with a prefix, in key order.
 pub struct IterPrefix<'a, K, V> {
-    walk: Walk<'a, V>,
-    kind: PhantomData<fn() -> K>,
+    walk: Walk<'a, K, V>,
 }
 
 impl<'a, K, V> IterPrefix<'a, K, V> {
-    pub(crate) fn new(walk: Walk<'a, V>) -> Self {
-        IterPrefix {
-            walk,
-            kind: PhantomData,
-        }
+    pub(crate) fn new(walk: Walk<'a, K, V>) -> Self {
+        IterPrefix { walk }
     }
 }
 
@@ -85,7 +71,7 @@ impl<'a, K: Bytes, V> Iterator for IterPrefix<'a, K, V> {
 
     fn next(&mut self) -> Option<Self::Item> {
         let value = self.walk.next()?;
-        Some((owned(self.walk.key()), value))
+        Some((self.walk.key().to_owned(), value))
     }
 }
 
@@ -108,12 +94,12 @@ impl<K: Bytes, V> Iterator for Keys<'_, K, V> {
 
 /// An iterator over the values, in key order.
 pub struct Values<'a, V> {
-    walk: Walk<'a, V>,
+    walk: Walk<'a, Vec<u8>, V>,
     left: usize,
 }
 
 impl<'a, V> Values<'a, V> {
-    pub(crate) fn new(walk: Walk<'a, V>, left: usize) -> Self {
+    pub(crate) fn new(walk: Walk<'a, Vec<u8>, V>, left: usize) -> Self {
         Values { walk, left }
     }
 }
@@ -136,7 +122,7 @@ impl<'a, V> Iterator for Values<'a, V> {
 pub struct IterMut<'a, K, V>(IterPrefixMut<'a, K, V>);
 
 impl<'a, K, V> IterMut<'a, K, V> {
-    pub(crate) fn new(walk: WalkMut<'a, V>) -> Self {
+    pub(crate) fn new(walk: WalkMut<'a, K, V>) -> Self {
         IterMut(IterPrefixMut::new(walk))
     }
 }
@@ -152,16 +138,12 @@ impl<'a, K: Bytes, V> Iterator for IterMut<'a, K, V> {
 /// An iterator over the entries whose key begins with a prefix and whose values may be changed, in
 /// key order.
 pub struct IterPrefixMut<'a, K, V> {
-    walk: WalkMut<'a, V>,
-    kind: PhantomData<fn() -> K>,
+    walk: WalkMut<'a, K, V>,
 }
 
 impl<'a, K, V> IterPrefixMut<'a, K, V> {
-    pub(crate) fn new(walk: WalkMut<'a, V>) -> Self {
-        IterPrefixMut {
-            walk,
-            kind: PhantomData,
-        }
+    pub(crate) fn new(walk: WalkMut<'a, K, V>) -> Self {
+        IterPrefixMut { walk }
     }
 }
 
@@ -170,12 +152,12 @@ impl<'a, K: Bytes, V> Iterator for IterPrefixMut<'a, K, V> {
 
     fn next(&mut self) -> Option<Self::Item> {
         let value = self.walk.next()?;
-        Some((owned(self.walk.key()), value))
+        Some((self.walk.key().to_owned(), value))
     }
 }
 
 /// An iterator over the values, which may be changed, in key order.
-pub struct ValuesMut<'a, V>(pub(crate) WalkMut<'a, V>);
+pub struct ValuesMut<'a, V>(pub(crate) WalkMut<'a, Vec<u8>, V>);
 
 impl<'a, V> Iterator for ValuesMut<'a, V> {
     type Item = &'a mut V;
@@ -187,16 +169,12 @@ impl<'a, V> Iterator for ValuesMut<'a, V> {
 
 /// An iterator over the entries of a map that it owns, in key order.
 pub struct IntoIter<K, V> {
-    walk: Taken<V>,
-    kind: PhantomData<fn() -> K>,
+    walk: Taken<K, V>,
 }
 
 impl<K, V> IntoIter<K, V> {
-    pub(crate) fn new(walk: Taken<V>) -> Self {
-        IntoIter {
-            walk,
-            kind: PhantomData,
-        }
+    pub(crate) fn new(walk: Taken<K, V>) -> Self {
+        IntoIter { walk }
     }
 }
 
@@ -205,7 +183,7 @@ impl<K: Bytes, V> Iterator for IntoIter<K, V> {
 
     fn next(&mut self) -> Option<(K, V)> {
         let value = self.walk.next()?;
-        Some((owned(self.walk.key()), value))
+        Some((self.walk.key().to_owned(), value))
     }
 }
 

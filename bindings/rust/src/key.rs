@@ -1,17 +1,21 @@
 //! Kinds of keys.
 
+use std::borrow::Borrow;
 use std::cmp::Ordering;
 use std::str;
 
 /// What this crate needs of a kind besides. The traits are in a private module, so that no other
 /// crate implements `Bytes` or `BorrowedBytes`.
 pub(crate) mod sealed {
-    pub trait Kind: Sized {
+    pub trait Kind: Sized + Send + Sync {
         /// Whether a key is a text.
         const IS_TEXT: bool;
 
         /// A key of the bytes of a key of this kind.
         fn from_vec(bytes: Vec<u8>) -> Self;
+
+        /// The bytes of a key, in the memory that it has.
+        fn into_vec(self) -> Vec<u8>;
 
         /// The bytes of a key.
         fn bytes(&self) -> &[u8];
@@ -27,7 +31,7 @@ pub(crate) mod sealed {
 }
 
 /// A kind of keys: `Vec<u8>` or `String`. The library needs no other, so the trait is sealed.
-pub trait Bytes: sealed::Kind {
+pub trait Bytes: sealed::Kind + Borrow<<Self as Bytes>::Borrowed> {
     /// A key that is borrowed.
     type Borrowed: ?Sized + BorrowedBytes + ToOwned<Owned = Self>;
 }
@@ -83,6 +87,10 @@ impl sealed::Kind for Vec<u8> {
         bytes
     }
 
+    fn into_vec(self) -> Vec<u8> {
+        self
+    }
+
     fn bytes(&self) -> &[u8] {
         self
     }
@@ -133,6 +141,10 @@ impl sealed::Kind for String {
 
     fn from_vec(bytes: Vec<u8>) -> Self {
         String::from_utf8(bytes).expect("the keys of such a map are texts")
+    }
+
+    fn into_vec(self) -> Vec<u8> {
+        self.into_bytes()
     }
 
     fn bytes(&self) -> &[u8] {

@@ -58,6 +58,16 @@ extern "C" {
         len: usize,
         old: *mut u64,
     ) -> u32;
+    pub(crate) fn patricia_sorted_load(
+        map: *mut MapPlace,
+        keys: *const u8,
+        keys_size: usize,
+        lens: *const usize,
+        count: usize,
+        values: *const u64,
+        values_size: usize,
+        loaded: *mut usize,
+    ) -> u32;
     pub(crate) fn patricia_clone(map: *const MapPlace, copy: *mut MapPlace) -> u32;
     pub(crate) fn patricia_longest_prefix(
         map: *const MapPlace,

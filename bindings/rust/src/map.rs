@@ -5,13 +5,14 @@ pub use crate::iter::{
     CommonPrefixesIter, IntoIter, Iter, IterMut, IterPrefix, IterPrefixMut, Keys, Values, ValuesMut,
 };
 
-use crate::entries::Ahead;
+use crate::entries::{Ahead, Entries};
 use crate::key::{sealed::Slice, BorrowedBytes, Bytes};
 use crate::reads::reads_map;
 use crate::shared::SharedMap;
 use crate::slab::Slab;
 use crate::source::Source;
 use crate::tree::{DecodeError, Form, TooDeep, Tree};
+use crate::unsorted::Unsorted;
 use crate::walk::{Taken, Walk, WalkMut};
 use std::fmt;
 use std::marker::PhantomData;
@@ -98,10 +99,10 @@ impl<K: Bytes, V> GenericPatriciaMap<K, V> {
     /// Removes the entries whose key begins with the prefix, and returns them as a map.
     pub fn split_by_prefix<Q: AsRef<K::Borrowed>>(&mut self, prefix: Q) -> Self {
         let mut part = Self::of(self.tree.split(prefix.as_ref().as_bytes()), Slab::new());
-        let mut ahead = Ahead::new(&[], 0);
-        while let Some(number) = part.source().next(&mut ahead) {
-            let moved = part.values.insert(self.values.remove(number));
-            part.tree.insert(ahead.key(), moved);
+        let mut entries = Entries::<Vec<u8>, _>::new(Ahead::new(&[], 0));
+        while let Some(value) = entries.next(part.source(), |number| self.values.remove(number)) {
+            let moved = part.values.insert(value);
+            part.tree.insert(entries.key(), moved);
         }
         part
     }
@@ -125,16 +126,17 @@ impl<K: Bytes, V> GenericPatriciaMap<K, V> {
     /// Removes the entries whose key begins with the prefix, and returns how many they were.
     pub fn remove_prefix<Q: AsRef<K::Borrowed>>(&mut self, prefix: Q) -> usize {
         let prefix = prefix.as_ref().as_bytes();
-        let mut ahead = Ahead::new(prefix, prefix.len());
+        let mut entries = Entries::<Vec<u8>, _>::new(Ahead::new(prefix, prefix.len()));
         let mut removed = Vec::new();
-        while let Some(number) = self.source().next(&mut ahead) {
-            removed.push(self.values.remove(number));
+        let source = self.tree.source();
+        while let Some(value) = entries.next(source, |number| self.values.remove(number)) {
+            removed.push(value);
         }
         // The values are dropped last, when each number that a key has is that of a value again.
         self.tree.remove_under(prefix)
     }
 
-    fn walk_mut(&mut self, prefix: &[u8]) -> WalkMut<'_, V> {
+    fn walk_mut<T: Bytes>(&mut self, prefix: &[u8]) -> WalkMut<'_, T, V> {
         let ahead = Ahead::new(prefix, prefix.len());
         WalkMut::new(self.tree.source(), &mut self.values, ahead)
     }
@@ -192,9 +194,12 @@ impl<K: Bytes, Q: AsRef<K::Borrowed>, V> Extend<(Q, V)> for GenericPatriciaMap<K
 
 impl<K: Bytes, Q: AsRef<K::Borrowed>, V> FromIterator<(Q, V)> for GenericPatriciaMap<K, V> {
     fn from_iter<I: IntoIterator<Item = (Q, V)>>(entries: I) -> Self {
-        let mut map = Self::new();
-        map.extend(entries);
-        map
+        let mut unsorted = Unsorted::new();
+        for (key, value) in entries {
+            unsorted.push(key.as_ref().as_bytes(), value);
+        }
+        let (tree, values) = unsorted.into_tree();
+        Self::of(tree, values)
     }
 }
 

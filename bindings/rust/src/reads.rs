@@ -117,7 +117,7 @@ macro_rules! reads_map {
 
             /// A walk over the entries from a key on that begin with the first `common` bytes of
             /// it.
-            fn walk(&self, key: &[u8], common: usize) -> Walk<'_, V> {
+            fn walk<T: Bytes>(&self, key: &[u8], common: usize) -> Walk<'_, T, V> {
                 Walk::new(self.source(), &self.values, Ahead::new(key, common))
             }
 

@@ -161,9 +161,7 @@ impl<T: Bytes, U: AsRef<T::Borrowed>> Extend<U> for GenericPatriciaSet<T> {
 
 impl<T: Bytes, U: AsRef<T::Borrowed>> FromIterator<U> for GenericPatriciaSet<T> {
     fn from_iter<I: IntoIterator<Item = U>>(elements: I) -> Self {
-        let mut set = Self::new();
-        set.extend(elements);
-        set
+        Self::of(elements.into_iter().map(|element| (element, ())).collect())
     }
 }
 

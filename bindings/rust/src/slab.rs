@@ -52,6 +52,11 @@ impl<V> Slab<V> {
         self.values.iter_mut().map(Option::as_mut).collect()
     }
 
+    /// The values by their numbers.
+    pub(crate) fn into_values(self) -> Vec<Option<V>> {
+        self.values
+    }
+
     pub(crate) fn clear(&mut self) {
         self.values.clear();
         self.free.clear();

@@ -1,6 +1,7 @@
 //! What can be read: a map of the library, or a handle of one that is shared.
 
 use crate::entries::{Ahead, NextMany};
+use crate::key::Bytes;
 use crate::library::*;
 use crate::tree::{need, out_of_memory, Form, TooDeep};
 
@@ -199,10 +200,10 @@ impl<'a> Source<'a> {
         count
     }
 
-    /// Passes the next key that is ahead, and returns its number.
-    pub(crate) fn next(self, ahead: &mut Ahead) -> Option<u64> {
+    /// Reads the next block of keys that are ahead, and returns their numbers: none behind the last.
+    pub(crate) fn read_block<K: Bytes>(self, ahead: &mut Ahead<K>) -> &[u64] {
         // SAFETY: as in `len`.
-        unsafe { ahead.next_in(self.calls.cursor_next_many, self.place) }
+        unsafe { ahead.read_block(self.calls.cursor_next_many, self.place) }
     }
 
     /// The encoding of the keys, which are texts where the form is that of texts.

@@ -159,6 +159,27 @@ impl Tree {
         count
     }
 
+    /// The tree of keys that lie one behind the other, in order, with the numbers 0, 1, 2, ..
+    pub(crate) fn from_sorted(keys: &[u8], lens: &[usize]) -> Tree {
+        let mut tree = Tree::new();
+        let numbers: Vec<u64> = (0..lens.len() as u64).collect();
+        let mut loaded = 0;
+        // SAFETY: the place is empty; the keys, their lengths and the numbers are slices.
+        need(unsafe {
+            patricia_sorted_load(
+                &mut tree.place,
+                keys.as_ptr(),
+                keys.len(),
+                lens.as_ptr(),
+                lens.len(),
+                numbers.as_ptr(),
+                numbers.len(),
+                &mut loaded,
+            )
+        });
+        tree
+    }
+
     /// The tree of these bytes, with the numbers 0, 1, 2, .. below `count` in key order.
     pub(crate) fn from_tree_bytes(
         bytes: &[u8],

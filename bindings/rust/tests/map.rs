@@ -177,12 +177,35 @@ fn cursors() {
     assert_eq!(map.iter_prefix("c").next(), None);
 }
 
-/// Iterators read blocks of 8, 32 and 128 entries: none is lost or given twice where one ends, also
-/// where keys are longer than the room for them.
+/// Of entries with one key the last one counts, as where they are inserted one by one.
+#[test]
+fn collecting() {
+    let keys = texts();
+    let mut numbers = Numbers(7);
+    for count in [0, 1, 2, 40, 1000] {
+        let entries: Vec<_> = (0..count)
+            .map(|n| (keys[numbers.below(keys.len())].clone(), Rc::new(n)))
+            .collect();
+        let map: StringPatriciaMap<Rc<usize>> = entries.iter().cloned().collect();
+        let model: BTreeMap<String, Rc<usize>> = entries.iter().cloned().collect();
+        assert_eq!(map.len(), model.len());
+        for (_, value) in &entries {
+            let is_there = model.values().any(|other| Rc::ptr_eq(value, other));
+            assert_eq!(Rc::strong_count(value), if is_there { 3 } else { 1 });
+        }
+        let mut inserted = StringPatriciaMap::new();
+        inserted.extend(entries);
+        assert_eq!(map, inserted);
+        assert!(map.into_iter().eq(model));
+    }
+}
+
+/// Iterators read blocks of 8, 32, 128 and 512 entries: none is lost or given twice where one ends,
+/// also where keys are longer than the room for them.
 #[test]
 fn blocks() {
     for count in [
-        0, 1, 7, 8, 9, 39, 40, 41, 167, 168, 169, 295, 296, 297, 1000,
+        0, 1, 7, 8, 9, 39, 40, 41, 167, 168, 169, 679, 680, 681, 1191, 1192, 1193,
     ] {
         for long in [0, 60, 5000] {
             let key = |n: u32| format!("{:04}{}", n, "x".repeat(if n % 7 == 3 { long } else { 0 }));
