@@ -4,3 +4,4 @@ pub mod Reversed
 pub mod Splits
 pub mod TakenLines
 pub mod Together
+pub mod Values
