@@ -18,7 +18,8 @@
 //! A program for `patricia_tree` is compiled with another name of the crate, unless it uses what is
 //! not here: nodes; kinds of keys of its own; serde. Iterators read entries in blocks of at most
 //! 512; those that lend values to be changed take memory for a reference to each value besides.
-//! What is collected lies in key order in memory, which iterators are quickest over.
+//! They are quickest over what was collected: that is sorted first, and lies in key order in
+//! memory.
 //!
 //! Threads may read one map or set by reference, where its values may be. A [`SharedMap`] or a
 //! [`SharedSet`] is a handle of one that cannot be changed, for each thread its own.

@@ -42,6 +42,7 @@ impl<V> Unsorted<V> {
         for entry in &entries {
             sorted.extend_from_slice(&keys[entry.0.clone()]);
         }
+        drop(keys);
         let lens: Vec<usize> = entries.iter().map(|entry| entry.0.len()).collect();
         let values = entries.into_iter().map(|entry| entry.1).collect();
         (Tree::from_sorted(&sorted, &lens), values)
