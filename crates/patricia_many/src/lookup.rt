@@ -20,8 +20,8 @@ use patricia_nodes::link::{Link, NodeId};
 // waits for memory.
 const TOP_ROWS: usize = 2;
 
-// How what is left of a key meets the label of a node, where the head of the node says so. The first
-// byte of the key is given.
+// How what is left of a key meets the label of a node, where the head of the node says so. The
+// first byte of the key is given.
 #[inline(always)]
 fn compare_head<Q: BorrowedBytes, V>(
     arena: &NodeArena<V>,

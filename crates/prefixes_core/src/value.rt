@@ -4,9 +4,8 @@ ghost use Rattle.std.specs.Prelude.{◌≡◌, ◌<◌, ◌≤◌, IfOk, OnErr, 
 ghost use Rattle.prefixes_core.specs.Internal.Values.{bytes_of, HasItsBytes};
 
 use std::alloc::{AllocError, Global};
-use std::fmt;
 use std::marker::Model;
-use std::mem;
+use std::{fmt, mem};
 
 // How many bytes stand in a value itself.
 const INLINE: usize = 22;
