@@ -1,4 +1,5 @@
 pub mod EndLemmas
+pub mod MeasureLemmas
 pub mod PointNodes
 pub mod PruningLemmas
 pub mod StoreLemmas

@@ -20,6 +20,7 @@ mod cursors;
 mod ends;
 mod loading;
 mod many;
+mod measuring;
 mod merging;
 mod near;
 mod pruning;

@@ -72,6 +72,9 @@ impl<K: Bytes, V: Drop> GenericPatriciaMap<K, V> {
         ensures longest { IfOk result (λ n. All (λ k. length k ≤ n) (map.keys self.now)) }
         ensures err_only_nonempty { OnErr result (map.entries self.now ≢ []) }
     {
+        if let Some(bound) = self.tree.longest_key() {
+            return Ok(bound);
+        }
         let mut longest = 0;
         let mut cursor = self.cursor();
         while cursor.advance()? {
