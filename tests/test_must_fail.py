@@ -289,6 +289,13 @@ class Queued(Small):
         queue.add(lambda: True, urgent, True)
         self.assertEqual(queue.done(), [True])
 
+    def test_what_is_urgent_comes_first(self):
+        queue = Queue(Beside())
+        queue.add(lambda: True, lambda: ['last'])
+        queue.add(lambda: False, lambda: ['never'], True)
+        queue.add(lambda: True, lambda: ['first'], True)
+        self.assertEqual([queue.take(False).call() for _ in range(2)], [['first'], ['last']])
+
     def test_what_rt_ci_says_of_a_crate_is_known(self):
         for text, is_known, is_proved in (('', False, False), ('rt: small proved\n', True, True),
                                           ('rt: small is kept: an earlier run\n', True, True),

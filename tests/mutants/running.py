@@ -88,9 +88,11 @@ class Queue:
             self.left += 1
 
     def take(self, is_urgent):
-        """The first task that may begin, of all or of those that are urgent, or None."""
+        """A task that may begin, of all or of those that are urgent, or None: the first of those
+        that are urgent, and else the first."""
         with self.taking:
-            may_begin = (x for x in self.waiting if x.is_urgent >= is_urgent and x.is_ready())
+            tasks = sorted(self.waiting, key=lambda x: not x.is_urgent)
+            may_begin = (x for x in tasks if x.is_urgent >= is_urgent and x.is_ready())
             task = next(may_begin, None)
             if task:
                 self.waiting.remove(task)
