@@ -59,10 +59,11 @@ impl From<AllocError> for EncodeError {
     }
 }
 
-// A part of a label that others follow has at least so many bytes: as many whole items as fit.
+// Of bytes, texts and units a part of a label that others follow has at least so many bytes: as
+// many whole items as fit.
 const LEAST_PART: usize = LONGEST - 3;
 
-// About how many bytes the encoding has, and no fewer. Reads the nodes as they lie.
+// About how many bytes the encoding has, of these kinds no fewer. Reads the nodes as they lie.
 fn size<W: Width, V>(arena: &NodeArena<V>) -> usize {
     let nodes = &arena.nodes;
     let mut size = W::head();
