@@ -273,21 +273,22 @@ class Queued(Small):
         self.assertEqual(max(self.most), max(1, listing.processors() - 1))
 
     def test_what_is_urgent_waits_for_no_other(self):
-        log = written(self.top, 'log', 'rt: small proved\n')
-        queue = Queue(Beside(log))
-        begun = threading.Event()
+        queue = Queue(Beside(written(self.top, 'log', ''), self.top))
+        are_busy, begun = threading.Event(), threading.Event()
+        busy = threading.Barrier(listing.processors(), are_busy.set)
 
         def long():
+            busy.wait(60)
             begun.wait(60)
             return [begun.is_set()]
 
         def urgent():
             begun.set()
-            written(self.top, 'log', 'rt ci has ended\n')
             return []
-        queue.add(lambda: True, long)
-        queue.add(lambda: True, urgent, True)
-        self.assertEqual(queue.done(), [True])
+        for _ in range(listing.processors()):
+            queue.add(lambda: True, long)
+        queue.add(are_busy.is_set, urgent, True)
+        self.assertEqual(queue.done(), [True] * listing.processors())
 
     def test_what_is_urgent_comes_first(self):
         queue = Queue(Beside())

@@ -101,10 +101,11 @@ class Queue:
     def work(self, number):
         """Does one task after another. Beside an rt ci there are as many workers as it leaves
         processors, but one at least, since of two checks on a processor each takes up to twice its
-        seconds. The second also does what is urgent."""
+        seconds. The last worker does what is urgent alone, whatever the others do."""
+        is_last = number == listing.processors()
         while self.left:
             is_free = number == 0 or self.beside.has_ended() or number < self.beside.idle()
-            task = self.take(not is_free) if is_free or number == 1 else None
+            task = self.take(is_last) if is_free or is_last else None
             if task is None:
                 time.sleep(1)
                 continue
@@ -116,7 +117,7 @@ class Queue:
 
     def done(self):
         """Does all, and returns what is told."""
-        workers = range(listing.processors())
+        workers = range(listing.processors() + 1)
         with ThreadPoolExecutor(len(workers)) as pool:
             for ended in [pool.submit(self.work, x) for x in workers]:
                 ended.result()
