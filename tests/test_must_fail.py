@@ -297,6 +297,13 @@ class Queued(Small):
         queue.add(lambda: True, lambda: ['first'], True)
         self.assertEqual([queue.take(False).call() for _ in range(2)], [['first'], ['last']])
 
+    def test_what_is_largest_comes_first(self):
+        queue = Queue(Beside())
+        for size in 2, 3, 1:
+            queue.add(lambda: True, lambda size=size: [size], size=size)
+        queue.add(lambda: True, lambda: ['urgent'], True)
+        self.assertEqual([queue.take(False).call()[0] for _ in range(4)], ['urgent', 3, 2, 1])
+
     def test_what_rt_ci_says_of_a_crate_is_known(self):
         for text, is_known, is_proved in (('', False, False), ('rt: small proved\n', True, True),
                                           ('rt: small is kept: an earlier run\n', True, True),

@@ -68,11 +68,12 @@ def checks_in(folder):
 
 
 class Task(NamedTuple):
-    """A call that returns what it tells, one that says if it may begin, and whether others wait
-    for it."""
+    """A call that returns what it tells, one that says if it may begin, whether others wait for
+    it, and the size of what it checks, with which its time grows."""
     is_ready: Callable
     call: Callable
     is_urgent: bool
+    size: int
 
 
 class Queue:
@@ -82,16 +83,16 @@ class Queue:
         self.beside = beside
         self.waiting, self.left, self.told, self.taking = [], 0, [], threading.Lock()
 
-    def add(self, is_ready, call, is_urgent=False):
+    def add(self, is_ready, call, is_urgent=False, size=0):
         with self.taking:
-            self.waiting.append(Task(is_ready, call, is_urgent))
+            self.waiting.append(Task(is_ready, call, is_urgent, size))
             self.left += 1
 
     def take(self, is_urgent):
-        """A task that may begin, of all or of those that are urgent, or None: the first of those
-        that are urgent, and else the first."""
+        """A task that may begin, of all or of those that are urgent, or None: the largest of those
+        that are urgent, and else the largest, so that no long one is left to the end."""
         with self.taking:
-            tasks = sorted(self.waiting, key=lambda x: not x.is_urgent)
+            tasks = sorted(self.waiting, key=lambda x: (not x.is_urgent, -x.size))
             may_begin = (x for x in tasks if x.is_urgent >= is_urgent and x.is_ready())
             task = next(may_begin, None)
             if task:
@@ -134,6 +135,7 @@ class Work:
         self.prover = kept.prover
         self.archive = None
         self.work = os.path.join(room, sources.crate.name)
+        self.size = sum(map(len, sources.texts.values()))
 
     def add_to(self, queue):
         """Has a queue do it, once it is known if the libraries below are proved, and for an archive
@@ -141,7 +143,7 @@ class Work:
         fails."""
         if self.archive or self.edits or list(self.sources.lines()):
             queue.add(lambda: all(map(queue.beside.knows, self.needed())),
-                      lambda: self.begin(queue), bool(self.archive))
+                      lambda: self.begin(queue), bool(self.archive), self.size)
 
     def needed(self):
         """The crates that are to be proved before."""
@@ -165,7 +167,7 @@ class Work:
         told += [self.line_told(x) for x in new if x in lines]
         bare = [x for x in new if x not in lines and not x.goal]
         if bare:
-            queue.add(lambda: True, lambda: self.looked_for(bare))
+            queue.add(lambda: True, lambda: self.looked_for(bare), size=self.size)
         made = packs([x for x in new if x not in [*lines, *bare]], self.sources, self.turned)
         if self.archive and not is_built:
             told.append(self.archived())
@@ -174,7 +176,7 @@ class Work:
         else:
             return told + self.packs_told(made, self.work)
         for pack in made:
-            queue.add(lambda: True, lambda pack=pack: self.pack_told_apart(pack))
+            queue.add(lambda: True, lambda pack=pack: self.pack_told_apart(pack), size=self.size)
         return told
 
     def told_at_once(self, tried):
