@@ -2,6 +2,7 @@
 use Rattle.std.specs.Prelude.{ℕ, List, ◌≤◌, ⊤, take}
 use Rattle.prefixes_core.specs.declared.value.Stored.{Stored}
 use Rattle.prefixes_core.specs.declared.value.Stored.TheVariants.{Inline, OnHeap}
+use Rattle.prefixes_core.specs.declared.value.TheConstants.{INLINE}
 
 -- the bytes: the first of an array, or those on the heap
 abbrev pub bytes_of : Stored → List ℕ
@@ -10,5 +11,5 @@ bytes_of (OnHeap bytes) = bytes.value.items
 
 -- there are no more bytes than the array has
 abbrev pub HasItsBytes : Stored → Type 0
-HasItsBytes (Inline len bytes) = len ≤ 22
+HasItsBytes (Inline len bytes) = len ≤ INLINE
 HasItsBytes (OnHeap bytes) = ⊤
