@@ -106,9 +106,13 @@ module _ {item : List ℕ → Type 0} (kind : IsKeyKind item) {V : Type 0} {s : 
       come_siblings = subst (λ (p : Plan V). IsCanonical item (siblings_in p)) come_open.is
           (siblings-within item w.frames w.focus filled_siblings)
 
-      -- the path with the node's label is valid
+      -- its label is valid
+      pub come_label : IsValid item n.label
+      come_label = come_siblings.valid
+
+      -- and so is the path with it
       pub come_valid : IsValid item (path ++ n.label)
-      come_valid = IsValid-append item path n.label w.valid come_siblings.valid
+      come_valid = IsValid-append item path n.label w.valid come_label
 
       -- from the node the descent goes on at its first child
       pub comes_down : (child : ℕ) → n.child ≡ Some child → (longer : List ℕ)

@@ -16,7 +16,7 @@ use patricia_keys::Bytes;
 use patricia_nodes::arena::NodeArena;
 use patricia_nodes::arena::seek::LinkRef;
 use patricia_nodes::link::NodeId;
-use patricia_nodes::path::new_path;
+use patricia_nodes::path::{extend_by_label, new_path};
 use std::alloc::{AllocError, Global};
 
 // The node of the first entry, whose key is then the path: the first node with a value, along first
@@ -40,7 +40,7 @@ fn find_first<K: Bytes, V>(
         id: first,
     };
     loop {
-        path.extend_from_slice(arena.nodes.label(at.id))?;
+        extend_by_label::<K, V>(path, &arena.nodes, at.id)?;
         if arena.nodes.value(at.id).is_some() {
             return Ok(at);
         }
@@ -86,7 +86,7 @@ fn find_last<K: Bytes, V>(
             };
             continue;
         }
-        path.extend_from_slice(arena.nodes.label(id))?;
+        extend_by_label::<K, V>(path, &arena.nodes, id)?;
         match arena.nodes.child(id).get() {
             Some(child) => {
                 last = Linked {

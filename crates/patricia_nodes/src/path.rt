@@ -1,6 +1,11 @@
 //! The bytes of a key that are passed on the way to its node.
-ghost use Rattle.std.specs.Prelude.{◌≡◌, ◌++◌, [], IfOk, OnOk};
+ghost use Rattle.std.specs.Prelude.{◌≡◌, ◌<◌, ◌++◌, [], length, IfOk, OnOk};
+ghost use Rattle.patricia_keys.specs.Keys.{IsValid};
+ghost use Rattle.patricia_nodes.specs.Internal.NodeVecs.{ReadsNode};
 
+use crate::arena::node_vec::NodeVec;
+use crate::link::NodeId;
+use patricia_keys::Bytes;
 use std::alloc::{AllocError, Global};
 
 /// How many bytes there is room for at first.
@@ -21,4 +26,22 @@ pub fn extend_path(path: &mut Vec<u8>, more: &[u8]) -> Result<(), AllocError>
         path.reserve(ROOM.max(more.len()))?;
     }
     path.extend_from_slice(more)
+}
+
+/// Adds the label of a node. Where it has one byte, the node's head alone is read.
+pub fn extend_by_label<K: Bytes, V>(
+    path: &mut Vec<u8>,
+    nodes: &NodeVec<V>,
+    id: NodeId,
+) -> Result<(), AllocError>
+    requires within { id < length nodes.now.items }
+    requires valid { ReadsNode nodes.now id (λ n. IsValid K.item n.label) }
+    ensures { ReadsNode nodes.now id
+        (λ n. OnOk result (path.new.items ≡ path.old.items ++ n.label)) }
+{
+    if nodes.short_len(id) == 1 {
+        path.push(nodes.first_byte(id))?;
+        return Ok(());
+    }
+    path.extend_from_slice(nodes.label(id))
 }

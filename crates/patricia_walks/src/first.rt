@@ -10,7 +10,7 @@ ghost use Rattle.patricia_walks.specs.Internal.Lowers.{AreSiblingsAt};
 use patricia_keys::Bytes;
 use patricia_nodes::arena::NodeArena;
 use patricia_nodes::link::NodeId;
-use patricia_nodes::path::new_path;
+use patricia_nodes::path::{extend_by_label, new_path};
 use std::alloc::{AllocError, Global};
 
 // The first value of siblings and of what is below them, whose key is then the path: that of the
@@ -30,7 +30,7 @@ fn first_below<'a, K: Bytes, V>(
 {
     let mut id = top;
     loop {
-        path.extend_from_slice(arena.nodes.label(id))?;
+        extend_by_label::<K, V>(path, &arena.nodes, id)?;
         if let Some(value) = arena.nodes.value(id) {
             return Ok(value);
         }

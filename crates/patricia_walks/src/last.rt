@@ -18,7 +18,7 @@ ghost use Rattle.patricia_nodes.specs.Internal.Places.{entries_below};
 use patricia_keys::{BorrowedBytes, Bytes};
 use patricia_nodes::arena::NodeArena;
 use patricia_nodes::link::{Link, NodeId};
-use patricia_nodes::path::new_path;
+use patricia_nodes::path::{extend_by_label, new_path};
 use std::alloc::{AllocError, Global};
 use std::cmp::Ordering;
 
@@ -166,7 +166,7 @@ fn last_below<'a, K: Bytes, V>(
 {
     let mut id = top;
     loop {
-        path.extend_from_slice(arena.nodes.label(id))?;
+        extend_by_label::<K, V>(path, &arena.nodes, id)?;
         match arena.nodes.child(id).get() {
             Some(child) => id = last_sibling::<K, V>(arena, child),
             None => match arena.nodes.value(id) {

@@ -1,10 +1,10 @@
-use Rattle.std.proofs.Common.{sym, ap, subst, ◌∙◌, ◌++◌, arith}
+use Rattle.std.proofs.Common.{sym, ap, subst, ◌∙◌, arith}
 use Rattle.patricia_keys.specs.Keys.{IsValid}
 use Rattle.patricia_nodes.specs.Internal.Plans.{entries_of}
 use Rattle.patricia_nodes.specs.Internal.Places.{node_above}
 use Rattle.patricia_nodes.proofs.NodeVecLemmas.{node_there}
 use Rattle.patricia_edits.specs.Internal.Ends.{IsLastKey}
-use Rattle.patricia_edits.proofs.ComeLemmas.{comes_root, come_within, come_valid, comes_down}
+use Rattle.patricia_edits.proofs.ComeLemmas.{comes_root, come_within, come_label, come_valid, comes_down}
 use Rattle.patricia_edits.proofs.ComeLemmas.{comes_next, less_child, less_sibling, leaf_valued}
 use Rattle.patricia_edits.proofs.ComeLemmas.{place_come, last_come, no_sibling}
 use Rattle.patricia_edits.proofs.ComeLemmas.{comes_past, fewer_come, run_within}
@@ -26,9 +26,14 @@ pub sibling-requires : goal.sibling-requires
 sibling-requires g c = run_within g.met.K.Bytes.lawful c.requires.whole c.requires.siblings
     c.loop-next.invariant _ c.run-id.result c.run-id.ensures.run
 
-pub label-requires : goal.label-requires
-label-requires g c = run_within g.met.K.Bytes.lawful c.requires.whole c.requires.siblings
-    c.loop-next.invariant _ c.run-id.result c.run-id.ensures.run
+pub extend_by_label-requires : goal.extend_by_label-requires
+extend_by_label-requires g c = record {
+  within = run_within g.met.K.Bytes.lawful c.requires.whole c.requires.siblings
+      c.loop-next.invariant _ c.run-id.result c.run-id.ensures.run;
+  valid = λ n reads. come_label g.met.K.Bytes.lawful c.requires.whole c.requires.siblings
+      (comes_past g.met.K.Bytes.lawful c.requires.whole c.requires.siblings
+      c.loop-next.invariant _ c.run-id.result c.run-id.ensures.run) reads;
+}
 
 pub child-requires : goal.child-requires
 child-requires g c = run_within g.met.K.Bytes.lawful c.requires.whole c.requires.siblings
@@ -75,13 +80,12 @@ loop-next-preserved g c =
     c.loop-next.invariant _ c.run-id.result c.run-id.ensures.run in
     let there = node_there c.args.arena.now.nodes.items c.run-id.result
     (come_within g.met.K.Bytes.lawful c.requires.whole c.requires.siblings w) in
-    let path = c.in_ok-extend_from_slice.ensures.items
-    ∙ ap (λ l. c.loop-next.path.items ++ l) (c.label.ensures _ there.1) in
+    let path = c.in_ok-extend_by_label.ensures _ there.1 in
     let alone = sym (c.sibling.ensures.node _ there.1) ∙ sym c.get.ensures ∙ c.in_default.is in
     comes_down g.met.K.Bytes.lawful c.requires.whole c.requires.siblings w there.1
     c.in-Some-get.child
     (sym (c.child.ensures.node _ there.1) ∙ sym c.get-in-loop-next.ensures ∙ c.in-Some-get.is)
-    c.extend_from_slice.new.self.items path (
+    c.extend_by_label.new.path.items path (
       no_sibling g.met.K.Bytes.lawful c.requires.whole c.requires.siblings w there.1 alone,
       w.past_is,
     )
@@ -92,8 +96,7 @@ returns-in-None-clause-place g c =
     c.loop-next.invariant _ c.run-id.result c.run-id.ensures.run in
     let there = node_there c.args.arena.now.nodes.items c.run-id.result
     (come_within g.met.K.Bytes.lawful c.requires.whole c.requires.siblings w) in
-    let path = c.in_ok-extend_from_slice.ensures.items
-    ∙ ap (λ l. c.loop-next.path.items ++ l) (c.label.ensures _ there.1) in
+    let path = c.in_ok-extend_by_label.ensures _ there.1 in
     let leaf = sym (c.child.ensures.node _ there.1) ∙ sym c.get-in-loop-next.ensures
     ∙ c.in-None.is in
     let some = leaf_valued g.met.K.Bytes.lawful c.requires.whole c.requires.siblings w there.1
@@ -107,8 +110,7 @@ returns-in-None-clause-valid g c =
     c.loop-next.invariant _ c.run-id.result c.run-id.ensures.run in
     let there = node_there c.args.arena.now.nodes.items c.run-id.result
     (come_within g.met.K.Bytes.lawful c.requires.whole c.requires.siblings w) in
-    let path = c.in_ok-extend_from_slice.ensures.items
-    ∙ ap (λ l. c.loop-next.path.items ++ l) (c.label.ensures _ there.1) in
+    let path = c.in_ok-extend_by_label.ensures _ there.1 in
     subst (IsValid g.K.Bytes.item) (sym path)
     (come_valid g.met.K.Bytes.lawful c.requires.whole c.requires.siblings w there.1)
 
@@ -118,8 +120,7 @@ returns-in-None-clause-last g c =
     c.loop-next.invariant _ c.run-id.result c.run-id.ensures.run in
     let there = node_there c.args.arena.now.nodes.items c.run-id.result
     (come_within g.met.K.Bytes.lawful c.requires.whole c.requires.siblings w) in
-    let path = c.in_ok-extend_from_slice.ensures.items
-    ∙ ap (λ l. c.loop-next.path.items ++ l) (c.label.ensures _ there.1) in
+    let path = c.in_ok-extend_by_label.ensures _ there.1 in
     let alone = sym (c.sibling.ensures.node _ there.1) ∙ sym c.get.ensures ∙ c.in_default.is in
     let leaf = sym (c.child.ensures.node _ there.1) ∙ sym c.get-in-loop-next.ensures
     ∙ c.in-None.is in

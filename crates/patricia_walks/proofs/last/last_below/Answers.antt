@@ -1,4 +1,4 @@
-use Rattle.std.proofs.Common.{Some, None, refl, sym, ap, subst, ◌∙◌, ◌++◌, arith}
+use Rattle.std.proofs.Common.{Some, None, refl, sym, ap, subst, ◌∙◌, arith}
 use Rattle.std.specs.Option.{option_copied}
 use Rattle.patricia_keys.specs.Keys.{IsValid}
 use Rattle.patricia_keys.proofs.KeyLemmas.{IsValid-append}
@@ -10,6 +10,15 @@ use Rattle.patricia_nodes.specs.Internal.Plans.{siblings_at}
 use Rattle.patricia_walks.proofs.LastLemmas.{siblings_open, last_child, last_value, has_value}
 use Rattle.patricia_walks.proofs.LastLemmas.{child_less, siblings_within}
 use Rattle.patricia_walks.proofs.last.last_below.Goals as goal
+
+pub extend_by_label-requires : goal.extend_by_label-requires
+extend_by_label-requires g c = record {
+  within =
+      let within = siblings_within g.K.Bytes.item _ c.loop-child.id c.loop-child.invariant.siblings in
+      omega (arith, within);
+  valid = λ n reads.
+      (siblings_open g.K.Bytes.item c.args.arena.now.nodes.items (Some c.loop-child.id) c.loop-child.id n c.loop-child.invariant.siblings refl reads).canonical.valid;
+}
 
 pub child-requires : goal.child-requires
 child-requires g c =
@@ -41,12 +50,12 @@ loop-child-preserved g c =
     let nodes = c.args.arena.now.nodes.items in
     let n = there.0 in
     let siblings = c.loop-child.invariant.siblings in
-    let path = c.in_ok-extend_from_slice.ensures.items ∙ ap (λ l. c.loop-child.path.items ++ l) (c.label.ensures _ there.1) in
+    let path = c.in_ok-extend_by_label.ensures _ there.1 in
     let opens = siblings_open g.K.Bytes.item nodes (Some c.loop-child.id) c.loop-child.id n siblings refl there.1 in
     record {
       siblings = c.last_sibling-id.ensures.siblings;
       valid = subst (IsValid g.K.Bytes.item) (sym path) (IsValid-append g.K.Bytes.item c.loop-child.path.items n.label c.loop-child.invariant.valid opens.canonical.valid);
-      same = sym (c.last_sibling-id.ensures.last c.extend_from_slice.new.self.items)
+      same = sym (c.last_sibling-id.ensures.last c.extend_by_label.new.path.items)
           ∙ ap (λ k. last_or None (prefixed k (entries (siblings_at nodes (Some c.in-Some.child))))) path
           ∙ sym (last_child g.K.Bytes.item g.met.K.Bytes.lawful nodes c.loop-child.id n siblings there.1 c.loop-child.path.items c.in-Some.child (sym (c.child.ensures.node _ there.1) ∙ sym c.get.ensures ∙ c.in-Some.is))
           ∙ c.loop-child.invariant.same;
@@ -55,7 +64,7 @@ loop-child-preserved g c =
 pub returns-in-Some-value-clause-last : goal.returns-in-Some-value-clause-last
 returns-in-Some-value-clause-last g c =
     let there = node_there _ _ (siblings_within g.K.Bytes.item _ c.loop-child.id c.loop-child.invariant.siblings) in
-    let path = c.in_ok-extend_from_slice.ensures.items ∙ ap (λ l. c.loop-child.path.items ++ l) (c.label.ensures _ there.1) in
+    let path = c.in_ok-extend_by_label.ensures _ there.1 in
     sym c.loop-child.invariant.same
     ∙ last_value g.K.Bytes.item g.met.K.Bytes.lawful c.args.arena.now.nodes.items c.loop-child.id
     there.0 c.loop-child.invariant.siblings there.1 c.loop-child.path.items _
@@ -66,7 +75,7 @@ returns-in-Some-value-clause-last g c =
 pub returns-in-Some-value-clause-valid : goal.returns-in-Some-value-clause-valid
 returns-in-Some-value-clause-valid g c =
     let there = node_there _ _ (siblings_within g.K.Bytes.item _ c.loop-child.id c.loop-child.invariant.siblings) in
-    let path = c.in_ok-extend_from_slice.ensures.items ∙ ap (λ l. c.loop-child.path.items ++ l) (c.label.ensures _ there.1) in
+    let path = c.in_ok-extend_by_label.ensures _ there.1 in
     let opens = siblings_open g.K.Bytes.item c.args.arena.now.nodes.items (Some c.loop-child.id) c.loop-child.id there.0 c.loop-child.invariant.siblings refl there.1 in
     subst (IsValid g.K.Bytes.item) (sym path) (IsValid-append g.K.Bytes.item c.loop-child.path.items there.0.label c.loop-child.invariant.valid opens.canonical.valid)
 
