@@ -68,7 +68,7 @@ fn size<W: Width, V>(arena: &NodeArena<V>) -> usize {
     let nodes = &arena.nodes;
     let mut size = W::head();
     for i in 0..nodes.len() {
-        let len = nodes.label(NodeId::new(i)).len();
+        let len = nodes.label_len(NodeId::new(i));
         // the label of a free node is empty
         if len > 0 {
             let heads = (len / LEAST_PART + 1).saturating_mul(W::head());

@@ -20,7 +20,6 @@ mod cursors;
 mod ends;
 mod loading;
 mod many;
-mod measuring;
 mod merging;
 mod near;
 mod pruning;

@@ -9,6 +9,7 @@ pub mod HolderLemmas
 pub mod HolderWriteLemmas
 pub mod LentLemmas
 pub mod LastLemmas
+pub mod LongestLemmas
 pub mod LowerLemmas
 pub mod NumberLemmas
 pub mod PassLemmas

@@ -13,6 +13,7 @@ pub mod first;
 mod held_tree;
 pub mod into_walk;
 pub mod last;
+pub mod longest;
 pub mod near;
 pub mod range;
 pub mod reach;

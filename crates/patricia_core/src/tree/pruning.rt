@@ -1,6 +1,6 @@
 //! A tree from which a walk removes entries where it stands.
 ghost use Rattle.std.specs.Prelude.{◌≡◌, ◌≢◌, ◌≤◌, ◌<◌, ◌∷◌, ℕ, List, [], None, Some, false};
-ghost use Rattle.std.specs.Prelude.{length, IfOk, OnOk, IfErr, OnErr, IsTrue};
+ghost use Rattle.std.specs.Prelude.{length, IfSome, IfOk, OnOk, IfErr, OnErr, IsTrue};
 ghost use Rattle.std.specs.FinMap as map;
 ghost use Rattle.std.specs.List.{All};
 ghost use Rattle.patricia_model.specs.Points.{Joins};
@@ -20,6 +20,7 @@ use patricia_keys::Bytes;
 use patricia_nodes::arena::NodeArena;
 use patricia_nodes::link::NodeId;
 use patricia_nodes::parts::TreeParts;
+use patricia_walks::longest::longest_key;
 use std::alloc::AllocError;
 use std::marker::{Model, PhantomData};
 
@@ -154,6 +155,16 @@ fn remove_here<K: Bytes, V: Drop>(
     walk.remove::<K, V>(&mut tree.arena)?;
     tree.count -= 1;
     Ok(())
+}
+
+impl<K: Bytes, V: Drop> Tree<K, V> {
+    /// No key has more bytes than these. `None` where more than 64 nodes lie one below the other.
+    /// Takes time in proportion to the nodes. Does not allocate.
+    pub fn longest_key(&self) -> Option<usize>
+        ensures { IfSome result (λ n. All (λ k. length k ≤ n) (map.keys self.now)) }
+    {
+        longest_key(&self.parts.arena)
+    }
 }
 
 impl<K: Bytes, V: Drop> Pruner<K, V> {

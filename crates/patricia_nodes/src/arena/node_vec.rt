@@ -111,6 +111,14 @@ impl<V> NodeVec<V> {
         self.store.label(id.index())
     }
 
+    /// The length of a node's label, in bytes. Reads its head alone where that is less than 63.
+    pub fn label_len(&self, id: NodeId) -> usize
+        requires { id < length self.now.items }
+        ensures { ReadsNode self.now id (λ n. result ≡ length n.label) }
+    {
+        self.store.label_len(id.index())
+    }
+
     /// How many bytes the label of a node takes.
     pub fn label_room(&self, id: NodeId) -> usize
         requires { id < length self.now.items }

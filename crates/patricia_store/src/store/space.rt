@@ -13,8 +13,8 @@ use std::alloc::AllocError;
 use std::mem;
 
 impl<V> Store<V> {
-    // The length of a node's label. Reads its head alone where that is less than 63.
-    fn label_len(&self, id: usize) -> usize
+    /// The length of a node's label, in bytes. Reads its head alone where that is less than 63.
+    pub fn label_len(&self, id: usize) -> usize
         requires { id < length self.now.items }
         ensures node { ReadsNode self.now id (λ n. result ≡ length n.label) }
         ensures short { result ≤ most }

@@ -1,6 +1,6 @@
 use Rattle.patricia_nodes.specs.Internal.Plans.{size, plan_at}
-use Rattle.patricia_core.proofs.MeasureLemmas.{Measuring}
-use Rattle.patricia_core.proofs.tree.measuring.+measure_siblings.Given as goal
+use Rattle.patricia_walks.proofs.LongestLemmas.{Measuring}
+use Rattle.patricia_walks.proofs.longest.+measure_siblings.Given as goal
 
 abbrev pub decreases-measure_siblings : goal.decreases-measure_siblings
 decreases-measure_siblings g l = l.depth

@@ -1,8 +1,8 @@
 use Rattle.std.proofs.Common.{sym, ◌∙◌, arith}
 use Rattle.patricia_nodes.proofs.NodeVecLemmas.{node_there}
 use Rattle.patricia_nodes.proofs.SeekLemmas.{head_within}
-use Rattle.patricia_core.proofs.MeasureLemmas.{measuring_start, measured_first, measuring_next, measuring_end}
-use Rattle.patricia_core.proofs.tree.measuring.+measure_siblings.Goals as goal
+use Rattle.patricia_walks.proofs.LongestLemmas.{measuring_start, measured_first, measuring_next, measuring_end}
+use Rattle.patricia_walks.proofs.longest.+measure_siblings.Goals as goal
 
 pub loop-id-init : goal.loop-id-init
 loop-id-init g t c = measuring_start c.args.nodes.now.items c.args.first c.requires
