@@ -18,6 +18,7 @@ COMMANDS = [
     (['tree', 'settings'], b'log\nlo\n'),
     (['tree', '--drop', 'settings'], b'log.level\nlog\nlog\n'),
     (['segment', 'words'], 'xapplepie\n北京大学生\n'.encode()),
+    (['segment', 'words'], 'xapplepie\n北京大学生\n\n'.encode() * 20),
     (['complete', 'packed'], b'foo\n'),
     (['stats', 'names'], b''),
     (['draw', 'settings', 'log'], b''),

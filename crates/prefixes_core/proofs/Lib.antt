@@ -2,6 +2,7 @@ pub mod AnswerLemmas
 pub mod BlockedLemmas
 pub mod CompletionLemmas
 pub mod CountLemmas
+pub mod CutLemmas
 pub mod DrawingLemmas
 pub mod FaultLemmas
 pub mod LineLemmas

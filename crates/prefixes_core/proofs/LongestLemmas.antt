@@ -1,6 +1,7 @@
 -- Which keys of a map begin a key, and which of them is the longest.
-use Rattle.std.proofs.Common.{◌≡◌, ℕ, ◌≤◌, inl, inr, Bool, true, false, cond, List}
-use Rattle.std.proofs.Common.{[], ◌∷◌, length, Option, None, Some, refl, sym, ap, subst, ◌∙◌}
+use Rattle.std.proofs.Common.{◌≡◌, ℕ, ◌≤◌, ◌<◌, inl, inr, Bool, true, false, cond, List}
+use Rattle.std.proofs.Common.{[], ◌∷◌, length, get_or, Option, None, Some, Bor, refl, sym, ap}
+use Rattle.std.proofs.Common.{map as list_map, subst, ◌∙◌, arith}
 use Rattle.std.specs.Prelude.{is_some, option_map}
 use Rattle.std.specs.List.{last_or}
 use Rattle.std.specs.Ordering.{is_eq, eq_by_cmp}
@@ -10,6 +11,7 @@ use Rattle.std.specs.declared.cmp.Ordering.{Ordering}
 use Rattle.std.specs.declared.cmp.Ordering.TheVariants.{Less, Equal, Greater}
 use Rattle.std.specs.FinMap as map
 use Rattle.std.specs.FinMap.{find}
+use Rattle.std.proofs.lemmas.List.{get_or-map, length-map}
 use Rattle.patricia_tree.specs.Keys.{Begins, key_cmp}
 use Rattle.patricia_tree.specs.Points.{Has}
 use Rattle.patricia_tree.specs.Prefixes.{along, longest}
@@ -129,3 +131,28 @@ module _ {V : Type 0} (m : map.FinMap key_cmp V) (k : List ℕ) where
           → (q : List ℕ) → map.contains_key m q ≡ true → Begins q k → ⊥
       by None f g = no_key m k f
       by (Some r) f g = absurd (cc)
+
+module _ {V : Type 0} (m : map.FinMap key_cmp V) (keys : List (Bor (List ℕ)))
+    (found : List (Option (Bor (List ℕ) × Bor V)))
+    (all : list_map (option_map (λ e. (e.0.now, e.1.now))) found
+    ≡ list_map (λ key. longest key.now (map.entries m)) keys) where
+  abbrev sees : Option (Bor (List ℕ) × Bor V) → Option (List ℕ × V)
+  sees = option_map (λ e. (e.0.now, e.1.now))
+
+  abbrev asks : Bor (List ℕ) → Option (List ℕ × V)
+  asks key = longest key.now (map.entries m)
+
+  -- as many prefixes are looked up as keys are there
+  pub as_many_longest : length found ≡ length keys
+  as_many_longest =
+      omega (arith, length-map found sees, length-map keys asks, ap length all)
+
+  -- the longest prefix of a key stands where the key does
+  pub longest_at : (i : ℕ) (key : Bor (List ℕ)) (one : Option (Bor (List ℕ) × Bor V))
+      → i < length keys → one ≡ get_or found i one
+      → option_map (λ e. (e.0.now, e.1.now)) one
+      ≡ longest (get_or keys i key).now (map.entries m)
+  longest_at i key one inside is =
+      let within : i < length found = omega (arith, inside, as_many_longest) in
+      ap sees is ∙ sym (get_or-map sees found i one None within)
+      ∙ ap (λ l. get_or l i None) all ∙ get_or-map asks keys i key None inside

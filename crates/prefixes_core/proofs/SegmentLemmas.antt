@@ -14,6 +14,7 @@ use Rattle.std.proofs.lemmas.Str.{IsCharBoundary-at_seam, IsCharBoundary-from_ta
 use Rattle.std.proofs.lemmas.Str.{IsUtf8-past_char}
 use Rattle.patricia_tree.specs.Keys.{Begins, key_cmp}
 use Rattle.patricia_tree.specs.TextKind.{IsTextItem, one_char}
+use Rattle.prefixes_core.specs.Internal.Cuts.{Cuts}
 use Rattle.prefixes_core.specs.Segments.{Fits, IsFirstPiece, AreSegments}
 use Rattle.prefixes_core.proofs.LongestLemmas.{IsLongestKey}
 
@@ -36,15 +37,8 @@ module _ {A : Type 0} where
       ]
 
 module _ {V : Type 0} (dictionary : map.FinMap key_cmp V) where
-  -- some pieces are cut, and this is left
-  pub record Cuts (text : List ℕ) (pieces : List (List ℕ)) (rest : List ℕ) : Type 0 where
-    pub joined : concat pieces ++ rest ≡ text
-    pub each :
-        (before after : List (List ℕ)) (piece : List ℕ) → pieces ≡ before ++ piece ∷ after
-        → IsFirstPiece dictionary (concat (piece ∷ after) ++ rest) piece
-
   -- at first nothing is cut
-  pub cuts_first : (text : List ℕ) → Cuts text [] text
+  pub cuts_first : (text : List ℕ) → Cuts dictionary text [] text
   cuts_first text = record {
     joined = refl;
     each = λ before after piece e. absurd (none before after piece e);
@@ -63,8 +57,8 @@ module _ {V : Type 0} (dictionary : map.FinMap key_cmp V) where
 
   -- one more piece is cut off what is left
   pub cuts_more : (text : List ℕ) (pieces : List (List ℕ)) (rest piece later : List ℕ)
-      → rest ≡ piece ++ later → IsFirstPiece dictionary rest piece → Cuts text pieces rest
-      → Cuts text (pieces ++ piece ∷ []) later
+      → rest ≡ piece ++ later → IsFirstPiece dictionary rest piece
+      → Cuts dictionary text pieces rest → Cuts dictionary text (pieces ++ piece ∷ []) later
   cuts_more text pieces rest piece later e first cuts = record {
     joined =
         ap (λ l. l ++ later) (concat-push pieces piece) ∙ append_assoc (concat pieces) piece later
@@ -87,7 +81,7 @@ module _ {V : Type 0} (dictionary : map.FinMap key_cmp V) where
 
   -- where nothing is left, all is cut
   pub cuts_last : (text : List ℕ) (pieces : List (List ℕ)) (rest : List ℕ) → rest ≡ []
-      → Cuts text pieces rest → AreSegments dictionary text pieces
+      → Cuts dictionary text pieces rest → AreSegments dictionary text pieces
   cuts_last text pieces rest none cuts = record {
     joined = sym (ap (λ l. concat pieces ++ l) none ∙ append-nil (concat pieces)) ∙ cuts.joined;
     each = λ before after p cut. subst (λ t. IsFirstPiece dictionary t p)
@@ -193,21 +187,10 @@ empty_list [] e = refl
 empty_list (x ∷ l) e = absurd (omega arith)
 
 -- where a piece can be cut off what is left, the text is not empty
-pub cuts_some : {V : Type 0} (dictionary : map.FinMap key_cmp V) (text : List ℕ)
-    (pieces : List (List ℕ)) (rest piece : List ℕ) → IsFirstPiece dictionary rest piece
-    → Cuts dictionary text pieces rest → text ≢ []
-cuts_some dictionary text pieces rest piece first cuts none =
+pub left_some : {V : Type 0} (dictionary : map.FinMap key_cmp V) (text rest piece : List ℕ)
+    → IsFirstPiece dictionary rest piece → length rest ≤ length text → text ≢ []
+left_some dictionary text rest piece first shorter none =
     let some = first_some dictionary rest piece first in
     let begun = first_begins dictionary rest piece first in
     let front = length-append piece begun.0 in
-    let all = length-append (concat pieces) rest in
-    absurd (omega (
-      arith,
-      some,
-      front,
-      all,
-      ap length begun.1,
-      ap length cuts.joined,
-      ap length
-          none,
-    ))
+    absurd (omega (arith, some, front, shorter, ap length begun.1, ap length none))

@@ -2,8 +2,9 @@
 use Rattle.std.proofs.Common.{◌≡◌, ◌==◌, ℕ, zero, suc, ◌+◌, ◌-◌, ◌<◌, ◌≤◌, Bool, true, false, ◌||◌}
 use Rattle.std.proofs.Common.{List, [], ◌∷◌, ◌++◌, length, get_or, take, drop, map as list_map}
 use Rattle.std.proofs.Common.{Bor, Option, None, Some, IfSome, refl, sym, ap, subst, ◌∙◌, arith}
-use Rattle.std.proofs.Common.{inl, inr}
+use Rattle.std.proofs.Common.{inl, inr, not, ◌≢◌, ◌↔◌, IsTrue}
 use Rattle.std.specs.FinMap as finite
+use Rattle.std.specs.Global.{Vec}
 use Rattle.std.specs.Io.BufRead.{DropsConsumable}
 use Rattle.std.specs.Io.Buffered.{reader_buffer, reader_capacity, reader_remaining}
 use Rattle.std.specs.Io.KnownBytes.{prepend_known}
@@ -13,7 +14,8 @@ use Rattle.std.specs.Str.{IsUtf8}
 use Rattle.std.specs.declared.io.buffered.BufReader.{BufReader}
 use Rattle.std.proofs.Math.Bool.{or_assoc}
 use Rattle.std.proofs.Math.Seq.{drop-append_seam}
-use Rattle.std.proofs.lemmas.Bool.{cases_Bool, cond-true, cond-false, false_from_ne_true}
+use Rattle.std.proofs.lemmas.Bool.{cases_Bool, cond-true, cond-false, eqb-false, eqb-true}
+use Rattle.std.proofs.lemmas.Bool.{false_from_ne_true, true≢false}
 use Rattle.std.proofs.lemmas.Fn.{FoldsTo-push}
 use Rattle.std.proofs.lemmas.List.{append_assoc, append-nil, map-append, take-append-drop}
 use Rattle.std.proofs.lemmas.List.{get_or-map, length-map, length_push, length-append}
@@ -22,16 +24,22 @@ use Rattle.std.proofs.lemmas.List.Elements.{All-get_or, All-nil, All-push, All-s
 use Rattle.memchr.specs.Find.{is_byte, Passes, NoneBefore}
 use Rattle.patricia_tree.specs.Keys.{key_cmp}
 use Rattle.patricia_tree.specs.Prefixes.{longest}
-use Rattle.prefixes_core.specs.Answers.{IsFound, IsRightLine, Leaves, Writes, route_text}
+use Rattle.patricia_tree.specs.Sets.{KeySet}
+use Rattle.prefixes_core.specs.Answers.{IsFound, IsRightLine, Leaves, Writes, pieces_text}
+use Rattle.prefixes_core.specs.Answers.{route_text}
+use Rattle.prefixes_core.specs.Internal.Cuts.{AreAllSegments, pieces_in}
 use Rattle.prefixes_core.specs.Internal.Together.{CutsLines, AnswersTogether}
 use Rattle.prefixes_core.specs.Internal.Together.{AnswersFront, TakesTogether}
 use Rattle.prefixes_core.specs.Lists.{lines_of}
+use Rattle.prefixes_core.specs.Segments.{AreSegments}
 use Rattle.prefixes_core.specs.Turns.{Answered, AnswersLine, AnswersAll, answered}
 use Rattle.prefixes_core.specs.declared.answering.Question.{Question}
 use Rattle.prefixes_core.specs.declared.answering.Question.TheVariants as Questions
 use Rattle.prefixes_core.specs.declared.answering.Style.{Style}
 use Rattle.prefixes_core.specs.declared.answering.together.Together.{Together}
 use Rattle.prefixes_core.proofs.AnswerLemmas.{is_some-map}
+use Rattle.prefixes_core.proofs.LongestLemmas.{longest_at}
+use Rattle.prefixes_core.proofs.SegmentLemmas.{empty_list}
 
 -- the first line of bytes ends at the first byte that ends lines
 first_at : (end : ℕ) (bytes more : List ℕ) (k : ℕ) → k < length bytes
@@ -166,26 +174,6 @@ module _ (style : Style) (routes : finite.FinMap key_cmp (List ℕ)) where
   module _ (lines : List (Bor (List ℕ))) (found : List (Option (Bor (List ℕ) × Bor (List ℕ))))
       (all : list_map (option_map (λ r. (r.0.now, r.1.now))) found
       ≡ list_map (λ line. longest line.now (finite.entries routes)) lines) where
-    -- the route of a line stands where the line does
-    route_at : (i : ℕ) (line : Bor (List ℕ)) (route : Option (Bor (List ℕ) × Bor (List ℕ)))
-        → i < length lines → route ≡ get_or found i route
-        → option_map (λ r. (r.0.now, r.1.now)) route
-        ≡ longest (get_or lines i line).now (finite.entries routes)
-    route_at i line route inside is =
-        let sees : Option (Bor (List ℕ) × Bor (List ℕ)) → Option (List ℕ × List ℕ) =
-        option_map (λ r. (r.0.now, r.1.now)) in
-        let asks : Bor (List ℕ) → Option (List ℕ × List ℕ) =
-        λ l. longest l.now (finite.entries routes) in
-        let within : i < length found = omega (
-          arith,
-          inside,
-          length-map found sees,
-          length-map lines asks,
-          ap length all,
-        ) in
-        ap sees is ∙ sym (get_or-map sees found i route None within)
-        ∙ ap (λ l. get_or l i None) all ∙ get_or-map asks lines i line None inside
-
     -- one line more is routed
     pub line_routed : (i : ℕ) (line : Bor (List ℕ))
         (route : Option (Bor (List ℕ) × Bor (List ℕ))) (old so_far new : List ℕ) (seen one : Bool)
@@ -200,7 +188,7 @@ module _ (style : Style) (routes : finite.FinMap key_cmp (List ℕ)) where
         (list_map (λ l. l.now) (take (i + 1) lines)) old new (seen || one)
     line_routed i line route old so_far new seen one inside is utf8 writes finds before =
         let next = get_or lines i line in
-        let known = route_at i line route inside is in
+        let known = longest_at routes lines found all i line route inside is in
         let within : i < length (list_map (λ l. l.now) lines) =
         omega (arith, inside, length-map lines (λ l. l.now)) in
         next_more style (Questions.Route routes) (λ l. l.now) lines i line old so_far new seen one
@@ -212,6 +200,57 @@ module _ (style : Style) (routes : finite.FinMap key_cmp (List ℕ)) where
           refl,
         )
         (finds ∙ is_some-map (λ r. (r.0.now, r.1.now)) route ∙ ap is_some known) refl before
+
+-- a line has pieces exactly if it is not empty
+has_pieces : (line : List ℕ) (b : Bool) → b ≡ (length line == 0) → IsTrue (not b) ↔ (line ≢ [])
+has_pieces line true is = (
+  λ some. absurd (true≢false (sym some)),
+  λ some. absurd (some (empty_list line (eqb-true (length line) 0 (sym is)))),
+)
+has_pieces line false is =
+    (λ some none. eqb-false (length line) 0 (sym is) (ap length none), λ some. refl)
+
+module _ (style : Style) (words : KeySet) where
+  -- one line more is cut into pieces
+  pub line_segmented : (lines : List (Bor (List ℕ))) (pieces : List (Vec (Bor (List ℕ))))
+      → AreAllSegments words (list_map (λ l. l.now) lines) (list_map pieces_in pieces)
+      → (i : ℕ) (line : Bor (List ℕ)) (own : Vec (Bor (List ℕ))) (old so_far new : List ℕ)
+      (seen empty : Bool) → i < length lines → own ≡ get_or pieces i own
+      → All IsUtf8 (list_map (λ l. l.now) lines)
+      → new ≡ so_far ++ pieces_text style (get_or lines i line).now (pieces_in own)
+      → empty ≡ (length (get_or lines i line).now == 0)
+      → AnswersTogether style (Questions.Segment words) (list_map (λ l. l.now) (take i lines)) old
+      so_far seen
+      → AnswersTogether style (Questions.Segment words)
+      (list_map (λ l. l.now) (take (i + 1) lines)) old new (seen || not empty)
+  line_segmented lines pieces all i line own old so_far new seen empty inside is utf8 writes
+      finds before =
+      let next = get_or lines i line in
+      let within : i < length (list_map (λ l. l.now) lines) =
+      omega (arith, inside, length-map lines (λ l. l.now)) in
+      let behind : i < length pieces = omega (
+        arith,
+        within,
+        all.lists,
+        length-map pieces pieces_in,
+      ) in
+      let text = get_or-map (λ l. l.now) lines i line [] inside in
+      let parts : get_or (list_map pieces_in pieces) i [] ≡ pieces_in own =
+      get_or-map pieces_in pieces i own [] behind ∙ ap pieces_in (sym is) in
+      next_more style (Questions.Segment words) (λ l. l.now) lines i line old so_far new seen
+      (not empty) inside
+      (subst IsUtf8 text (All-get_or IsUtf8 (list_map (λ l. l.now) lines) i [] within utf8)) (
+        pieces_text style next.now (pieces_in own),
+        writes,
+        (
+          pieces_in own,
+          subst (λ p. AreSegments words next.now p) parts (subst
+              (λ l. AreSegments words l (get_or (list_map pieces_in pieces) i [])) text
+              (all.each i within)),
+          refl,
+        ),
+      )
+      (has_pieces next.now empty finds) refl before
 
 -- answers come behind those that wait
 pub together_behind : (style : Style) (question : Question) (lines : List (List ℕ))

@@ -1,4 +1,5 @@
 -- Words of contracts that no user of the library meets: a reader need not believe them.
+pub mod Cuts
 pub mod Failures
 pub mod Reversed
 pub mod Splits

@@ -10,10 +10,12 @@ ghost use Rattle.prefixes_core.specs.Internal.Together.{AnswersTogether, Answers
 ghost use Rattle.prefixes_core.specs.declared.answering.Question.{Question};
 ghost use Rattle.prefixes_core.specs.declared.answering.Question.TheVariants as Questions;
 
-use super::writing::{push_blocked, push_route};
+use super::writing::{push_blocked, push_pieces, push_route};
 use super::{Question, Style};
 use crate::blocking::{BlockList, cut_keys, joined_keys, write_name};
+use crate::cutting::segment_all;
 use crate::lines::{Line, cut_lines};
+use crate::listing::Names;
 use crate::value::Payload;
 use patricia_tree::router::Router;
 use std::alloc::{AllocError, Global};
@@ -81,6 +83,22 @@ impl<'b> AnswersLines<'b> for BlockList {
     }
 }
 
+impl<'b> AnswersLines<'b> for Names {
+    type Line = &'b str;
+
+    ghost question = { Questions.Segment };
+
+    fn answer_lines(
+        &self,
+        alloc: Global,
+        lines: &[&'b str],
+        style: Style,
+        out: &mut Vec<u8>,
+    ) -> Result<bool, AllocError> {
+        segment_lines(alloc, self, lines, style, out)
+    }
+}
+
 // Writes the routes of lines, which are looked up side by side, and returns whether there is one.
 fn route_lines(
     alloc: Global,
@@ -143,6 +161,27 @@ fn block_lines(
         let key = found[i];
         push_by_key(alloc, line, key, style, &mut name, out)?;
         is_found |= key.is_some();
+    }
+    Ok(is_found)
+}
+
+// Writes the pieces of lines, which are cut side by side, and returns whether there is one.
+fn segment_lines(
+    alloc: Global,
+    words: &Names,
+    lines: &[&str],
+    style: Style,
+    out: &mut Vec<u8>,
+) -> Result<bool, AllocError>
+    requires { All IsUtf8 (list_map (λ line. line.now) lines.now) }
+    ensures { IfOk result (λ found. AnswersTogether style (Questions.Segment words.now)
+        (list_map (λ line. line.now) lines.now) out.old.items out.new.items found) }
+{
+    let pieces = segment_all(alloc, words, lines)?;
+    let mut is_found = false;
+    for (i, line) in lines.iter().enumerate() {
+        push_pieces(alloc, &pieces[i], line, style, out)?;
+        is_found |= !line.is_empty();
     }
     Ok(is_found)
 }
@@ -220,6 +259,7 @@ pub(crate) fn answer_front(
     match question {
         Question::Route(routes) => front(alloc, routes, bytes, end, style, next, out),
         Question::Block(list) => front(alloc, list, bytes, end, style, next, out),
+        Question::Segment(words) => front(alloc, words, bytes, end, style, next, out),
         _ => NONE,
     }
 }
