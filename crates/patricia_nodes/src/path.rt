@@ -1,5 +1,5 @@
 //! The bytes of a key that are passed on the way to its node.
-ghost use Rattle.std.specs.Prelude.{◌≡◌, ◌<◌, ◌++◌, [], length, IfOk, OnOk};
+ghost use Rattle.std.specs.Prelude.{◌≡◌, ◌<◌, ◌++◌, [], length, IfOk, OnOk, OnErr};
 ghost use Rattle.patricia_keys.specs.Keys.{IsValid};
 ghost use Rattle.patricia_nodes.specs.Internal.NodeVecs.{ReadsNode};
 
@@ -18,17 +18,20 @@ pub fn new_path(alloc: Global) -> Result<Vec<u8>, AllocError>
     Vec::with_capacity(alloc, ROOM)
 }
 
-/// Adds bytes. Where there is no room yet, it makes room for those of most keys.
-pub fn extend_path(path: &mut Vec<u8>, more: &[u8]) -> Result<(), AllocError>
-    ensures { OnOk result (path.new.items ≡ path.old.items ++ more.now) }
+// Makes room for the bytes of most keys, where there is none yet.
+#[inline(always)]
+fn make_room(path: &mut Vec<u8>) -> Result<(), AllocError>
+    ensures { path.new.items ≡ path.old.items }
 {
     if path.capacity() == 0 {
-        path.reserve(ROOM.max(more.len()))?;
+        path.reserve(ROOM)?;
     }
-    path.extend_from_slice(more)
+    Ok(())
 }
 
-/// Adds the label of a node. Where it has one byte, the node's head alone is read.
+/// Adds the label of a node. Where it has one byte, the node's head alone is read. Where there is
+/// no room yet, it makes room for the bytes of most keys.
+#[inline(always)]
 pub fn extend_by_label<K: Bytes, V>(
     path: &mut Vec<u8>,
     nodes: &NodeVec<V>,
@@ -36,9 +39,11 @@ pub fn extend_by_label<K: Bytes, V>(
 ) -> Result<(), AllocError>
     requires within { id < length nodes.now.items }
     requires valid { ReadsNode nodes.now id (λ n. IsValid K.item n.label) }
-    ensures { ReadsNode nodes.now id
+    ensures label { ReadsNode nodes.now id
         (λ n. OnOk result (path.new.items ≡ path.old.items ++ n.label)) }
+    ensures same { OnErr result (path.new.items ≡ path.old.items) }
 {
+    make_room(path)?;
     if nodes.short_len(id) == 1 {
         path.push(nodes.first_byte(id))?;
         return Ok(());

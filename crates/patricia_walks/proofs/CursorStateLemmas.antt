@@ -8,7 +8,7 @@ use Rattle.patricia_model.specs.Prefixes.{under}
 use Rattle.patricia_model.specs.Siblings.{entries}
 use Rattle.patricia_model.specs.Trees.{IsTree}
 use Rattle.patricia_nodes.specs.Internal.Plans.{IsWellFormed, siblings_of, siblings_at}
-use Rattle.patricia_walks.specs.Internal.Positions.{IsPosition}
+use Rattle.patricia_walks.specs.Internal.Fronts.{IsFrontPosition}
 use Rattle.patricia_walks.specs.declared.cursor_state.Start.{Start}
 use Rattle.patricia_walks.specs.declared.cursor_state.CursorState.{CursorState}
 use Rattle.patricia_nodes.specs.declared.parts.TreeParts.{TreeParts}
@@ -32,7 +32,7 @@ state_leaves item t prefix w = record { held = w.held; left_is = w.left_is }
 -- a step by its answer: the state stays one, whatever came of it
 pub step_state : (item : List ℕ → Type 0) (kind : IsKeyKind item) {V : Type 0} (t u : CursorState V)
     (prefix : List ℕ) (w : IsCursorState item t prefix) (s : u.tree.parts ≡ t.tree.parts)
-    (position : IsPosition item (position_of u)) {A E : Type 0} (r : Result A E)
+    (position : IsFrontPosition item (position_of u)) {A E : Type 0} (r : Result A E)
     → ((a : A) → r ≡ Ok a → (key : Option (List ℕ)) × Advances t key u)
     → OnErr r (StepIsRefused t u) → IsCursorState item u prefix
 step_state item kind t u prefix w s position r goes err =
@@ -48,7 +48,7 @@ module _ (item : List ℕ → Type 0) {V : Type 0} (p : TreeParts V) (t : Cursor
   below nonempty = under_filled prefix nonempty (option_map (λ _. OfEmptyKey) p.value) (entries (siblings_at (numbered_slots 0 p.arena.nodes.items) p.arena.root))
 
   -- a new state is one, and nothing is lent yet
-  pub made_state : IsPosition item (position_of t) → left_of t ≡ under prefix (holders p.value p.arena)
+  pub made_state : IsFrontPosition item (position_of t) → left_of t ≡ under prefix (holders p.value p.arena)
       → IsCursorState item t prefix
   made_state position left = record {
     held = made_held item p t.tree prefix whole tree made last;
@@ -57,7 +57,7 @@ module _ (item : List ℕ → Type 0) {V : Type 0} (p : TreeParts V) (t : Cursor
   }
 
   -- and so is one that begins below a node, or is over where there is none
-  pub made_under : prefix ≢ [] → IsPosition item (position_of t) → left_of t ≡ [] → t.stack.items ≡ []
+  pub made_under : prefix ≢ [] → IsFrontPosition item (position_of t) → left_of t ≡ [] → t.progress.stack.items ≡ []
       → (o : Option Start) → IfSome o (StartsUnder item p.arena prefix)
       → IfNone o (under prefix (holders None p.arena) ≡ []) → IsPrefixCursor item t prefix o
   made_under nonempty position over stack None some none = made_state position (over ∙ sym none ∙ sym (below nonempty))

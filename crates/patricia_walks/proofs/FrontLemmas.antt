@@ -6,11 +6,14 @@ use Rattle.std.proofs.lemmas.Bool.{cases_lt, lt-ltb}
 use Rattle.std.proofs.lemmas.Bool.Decides.{nat_tests}
 use Rattle.std.proofs.lemmas.List.{append_assoc, length-take, map-append, take_all}
 use Rattle.patricia_keys.specs.Keys.{IsKeyKind, IsValid}
-use Rattle.patricia_model.specs.Siblings.{prefixed, own, entries}
+use Rattle.patricia_model.specs.Siblings.{prefixed, own, entries, IsCanonical}
 use Rattle.patricia_model.specs.Internal.WalkStates.{entries_left, steps_left, waiting}
 use Rattle.patricia_model.proofs.SiblingsLemmas.{prefixed-append}
+use Rattle.patricia_model.proofs.WalkLemmas.{left_start}
 use Rattle.patricia_store.specs.Internal.Nodes.{Node}
-use Rattle.patricia_nodes.specs.Internal.Plans.{plan_at, siblings_at}
+use Rattle.patricia_nodes.specs.declared.arena.NodeArena.{NodeArena}
+use Rattle.patricia_nodes.specs.Internal.Plans.{plan_at, siblings_at, siblings_of, entries_of}
+use Rattle.patricia_nodes.specs.Internal.Plans.{IsWellFormed}
 use Rattle.patricia_nodes.proofs.PlanLemmas.{siblings_none}
 use Rattle.patricia_nodes.proofs.SeekLemmas.{head_within}
 use Rattle.patricia_walks.specs.Internal.Positions.{Position, IsPosition, AdvancesTo, HasPassed}
@@ -21,8 +24,9 @@ use Rattle.patricia_walks.specs.Internal.Fronts.{state_at, IsFrontPosition, Move
 use Rattle.patricia_walks.proofs.AfterLemmas.{after-last}
 use Rattle.patricia_walks.proofs.PassLemmas.{IsPassing, pass_here, pass_last, ended_below}
 use Rattle.patricia_walks.proofs.PositionLemmas.{goes_back, goes_down, steps_trans, drops_none, arrived}
-use Rattle.patricia_walks.proofs.PositionLemmas.{position_end, position_within, all_plans-last}
-use Rattle.patricia_walks.proofs.PositionLemmas.{position_filled}
+use Rattle.patricia_walks.proofs.PositionLemmas.{position_end, position_start, position_within}
+use Rattle.patricia_walks.proofs.PositionLemmas.{all_plans-last}
+use Rattle.patricia_walks.proofs.PositionLemmas.{position_filled, position_label}
 
 module _ (front : ℕ) (path : List ℕ) where
   before_end : front < length path → nat_lt front (length path) ≡ true
@@ -95,6 +99,16 @@ module _ {V : Type 0} where
       ap (λ q. entries_left (state_of q)) (seen_none p next)
       ∙ rw (pending, next, stack, siblings_none p.nodes) refl
 
+  -- before all entries it has them left
+  pub left_front : (s : NodeArena V) (p : FrontPosition V) → p.nodes ≡ s.nodes.items → p.path ≡ []
+      → p.front ≡ 0 → p.next ≡ s.root → p.stack ≡ []
+      → entries_left (state_at p) ≡ own p.pending ++ entries_of s
+  left_front s p nodes path front next stack =
+      ap (λ q. entries_left (state_of q)) (seen_at_end p (front ∙ sym (ap length path)))
+      ∙ left_start (state_of (plain p)) path (ap (siblings_waiting p.nodes) stack)
+      ∙ ap (λ ns. own p.pending ++ entries (siblings_at ns p.next)) nodes
+      ∙ ap (λ at. own p.pending ++ entries (siblings_at s.nodes.items at)) next
+
 module _ (item : List ℕ → Type 0) {V : Type 0} where
   -- it is at its end then
   pub front_end : (p : FrontPosition V) → p.path ≡ [] → p.front ≡ 0 → p.next ≡ None
@@ -111,6 +125,13 @@ module _ (item : List ℕ → Type 0) {V : Type 0} where
     position = subst (IsPosition item) (sym (seen_at_end p e)) w;
     within = omega (arith, e);
   }
+
+  -- before all entries it stands at the top siblings
+  pub front_start : (s : NodeArena V) (p : FrontPosition V) → IsWellFormed s
+      → IsCanonical item (siblings_of s) → p.nodes ≡ s.nodes.items → p.path ≡ [] → p.front ≡ 0
+      → p.next ≡ s.root → p.stack ≡ [] → IsFrontPosition item p
+  front_start s p whole ok nodes path front next stack =
+      front_at_end p (front ∙ sym (ap length path)) (position_start item s (plain p) whole ok nodes path next stack)
 
   -- the number of the siblings that wait last is that of a node
   waits_within : (p : Position V) (n id : ℕ) (stack : List (ℕ × Option ℕ)) → IsPosition item p
@@ -170,6 +191,31 @@ module _ (item : List ℕ → Type 0) {V : Type 0} where
         less = omega (arith, w.step.less, steps, few);
       }
 
+module _ (item : List ℕ → Type 0) {V : Type 0} (p : FrontPosition V) where
+  -- a value that is due makes no difference to where a walk stands
+  pub front_due : IsFrontPosition item (record p { pending = None }) → IsFrontPosition item p
+  front_due w = record {
+    position = record {
+      stand = record { next_plan = w.position.stand.next_plan; plans = w.position.stand.plans; once = w.position.stand.once };
+      state = record {
+        valid = w.position.state.valid;
+        canonical = w.position.state.canonical;
+        waits = w.position.state.waits;
+      };
+      after = w.position.after;
+    };
+    within = w.within;
+  }
+
+  -- and it comes first of what is left
+  pub left_due : entries_left (state_at p)
+      ≡ prefixed p.path (own p.pending) ++ entries_left (state_at (record p { pending = None }))
+  left_due =
+      let es = entries (siblings_at p.nodes (seen p).next) in
+      let rest = waiting p.path (siblings_waiting p.nodes (seen p).stack) in
+      ap (λ l. l ++ rest) (prefixed-append p.path (own p.pending) es)
+      ∙ append_assoc (prefixed p.path (own p.pending)) (prefixed p.path es) rest
+
 module _ (item : List ℕ → Type 0) (kind : IsKeyKind item) {V : Type 0} (p : FrontPosition V) (id : ℕ)
     (w : IsFrontPosition item p) (pending : p.pending ≡ None) (next : p.next ≡ Some id) where
   -- a walk whose path is cut to the bytes before its next siblings
@@ -182,6 +228,35 @@ module _ (item : List ℕ → Type 0) (kind : IsKeyKind item) {V : Type 0} (p : 
       (next_before p.front p.path p.next less)
       (stack_before p.front p.path p.next p.stack less ∙ ap (with_siblings p.stack p.front) next
       ∙ ap (λ a. p.stack ++ (p.front, a) ∷ []) (sym next)) refl refl refl refl
+
+  -- the label of the node consists of whole items
+  pub front_label : (n : Node V) → n ≡ get_or p.nodes id n → IsValid item n.label
+  front_label n reads = elim (cases_lt p.front (length p.path)) [
+    | inl less ↦ position_label item cut id n (arrived item (seen p) cut (cut_step less)) next reads
+    | inr more ↦ position_label item (seen p) id n w.position
+        (next_at_end p.front p.path p.next (omega (arith, more, w.within)) ∙ next) reads
+  ]
+
+  -- one whose path is cut so has the same left
+  pub cut_left : (q : FrontPosition V) → q.nodes ≡ p.nodes → q.path ≡ take p.front p.path
+      → q.front ≡ p.front → q.pending ≡ None → q.next ≡ p.next → q.stack ≡ p.stack
+      → IsFrontPosition item q × (entries_left (state_at q) ≡ entries_left (state_at p))
+  cut_left q nodes path front taken same stack =
+      let e : q.front ≡ length q.path = omega (arith, front, ap length path, length-take p.front p.path, w.within) in
+      let is : seen q ≡ cut = seen_at_end q e ∙ position_is (plain q) cut nodes path (taken ∙ sym pending) same stack in
+      let here = at_cut (cases_lt p.front (length p.path)) in (
+        record { position = subst (IsPosition item) (sym is) here.0; within = omega (arith, e) },
+        ap (λ (x : Position V). entries_left (state_of x)) is ∙ here.1,
+      )
+    where
+      at_cut : (p.front < length p.path) ⊎ (length p.path ≤ p.front)
+          → IsPosition item cut × (entries_left (state_of cut) ≡ entries_left (state_at p))
+      at_cut (inl less) = let step = cut_step less in (arrived item (seen p) cut step, step.step.same)
+      at_cut (inr more) =
+          let end : p.front ≡ length p.path = omega (arith, more, w.within) in
+          let is : cut ≡ seen p = position_is cut (seen p) refl (take_all p.front p.path more) refl
+          (sym (next_at_end p.front p.path p.next end)) (sym (stack_at_end p.front p.path p.next p.stack end)) in
+          (subst (IsPosition item) (sym is) w.position, ap (λ (x : Position V). entries_left (state_of x)) is)
 
   -- so an entry is left where a node is next
   pub front_filled : entries_left (state_at p) ≢ []
@@ -278,6 +353,18 @@ module _ (item : List ℕ → Type 0) (kind : IsKeyKind item) {V : Type 0} (p q 
       few : (at : Option ℕ) → length (with_siblings p.stack p.front at) ≤ length p.stack + 1
       few None = omega arith
       few (Some i) = omega (arith, length-append p.stack ((p.front, Some i) ∷ []))
+
+  -- so one step of a walk that enters the node
+  pub moves_entered : (n.child ≡ None → (q.front ≡ p.front) × (q.next ≡ n.sibling) × (q.stack ≡ p.stack))
+      → (n.child ≢ None → (q.front ≡ length q.path) × (q.next ≡ n.child)
+      × (q.stack ≡ with_siblings p.stack p.front n.sibling)) → Moves item p value q
+  moves_entered beside below_it = by n.child refl
+    where
+      by : (at : Option ℕ) → n.child ≡ at → Moves item p value q
+      by None is = let goes = beside is in moves_beside is goes.0 goes.1 goes.2
+      by (Some i) is =
+          let goes = below_it (λ none. let both = sym is ∙ none in absurd (cc)) in
+          moves_below goes.0 goes.1 goes.2
 
 module _ (item : List ℕ → Type 0) {V : Type 0} (p q : FrontPosition V) (n : ℕ) (at : Option ℕ)
     (w : IsFrontPosition item p) (pending : p.pending ≡ None) (next : p.next ≡ None)

@@ -13,7 +13,7 @@ use Rattle.patricia_model.proofs.TreeLemmas.{from_sorted-put, tree_sorted}
 use Rattle.patricia_store.specs.Internal.Nodes.{Node}
 use Rattle.patricia_nodes.specs.Internal.Plans.{IsWellFormed, siblings_of, entries_of}
 use Rattle.patricia_model.specs.Internal.WalkStates.{entries_left}
-use Rattle.patricia_walks.specs.Internal.Positions.{IsPosition, state_of}
+use Rattle.patricia_walks.specs.Internal.Fronts.{IsFrontPosition, state_at}
 use Rattle.patricia_nodes.specs.Internal.Loans.{with_value}
 use Rattle.patricia_nodes.specs.Internal.NodeVecs.{value_in, with_valued}
 use Rattle.patricia_walks.specs.declared.held_tree.ValueSlot.{ValueSlot}
@@ -173,15 +173,16 @@ module _ (item : List ℕ → Type 0) (kind : IsKeyKind item) {V : Type 0} (t : 
       (λ ns.
       record {
         nodes = ns;
-        path = t.path.items;
+        path = t.progress.path.items;
+        front = t.progress.front;
         pending = t.pending;
-        next = t.next;
-        stack = t.stack.items;
+        next = t.progress.next;
+        stack = t.progress.stack.items;
       }) wrote.nodes in
       record {
         held = wrote.held;
-        position = subst (IsPosition item) (sym place) w.position;
-        left_is = ap (λ p. entries_left (state_of p)) place ∙ w.left_is ∙ sym wrote.entries;
+        position = subst (IsFrontPosition item) (sym place) w.position;
+        left_is = ap (λ p. entries_left (state_at p)) place ∙ w.left_is ∙ sym wrote.entries;
       }
 
   -- and a cursor under a prefix, even before it has begun, when nothing is lent

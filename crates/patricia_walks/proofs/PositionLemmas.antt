@@ -227,6 +227,13 @@ module _ (item : List ℕ → Type 0) {V : Type 0} where
       → id < length p.nodes
   position_within p id w next = head_within p.nodes p.next (plan_at p.nodes p.next) id w.stand.next_plan next
 
+  -- whose label consists of whole items
+  pub position_label : (p : Position V) (id : ℕ) (n : Node V) → IsPosition item p → p.next ≡ Some id
+      → n ≡ get_or p.nodes id n → IsValid item n.label
+  position_label p id n w next reads =
+      let o = opened p.nodes p.next (plan_at p.nodes p.next) id n w.stand.next_plan next reads in
+      (subst (IsCanonical item) (ap siblings_in o.is) w.state.canonical).valid
+
   -- at its start a walk stands at the top siblings
   pub position_start : (s : NodeArena V) (p : Position V) → IsWellFormed s
       → IsCanonical item (siblings_of s) → p.nodes ≡ s.nodes.items → p.path ≡ [] → p.next ≡ s.root

@@ -13,9 +13,9 @@ use Rattle.patricia_nodes.specs.Internal.Plans.{IsWellFormed, siblings_of, plan_
 use Rattle.patricia_nodes.proofs.SeekLemmas.{head_within}
 use Rattle.patricia_nodes.specs.Internal.Places.{Placed, node_under, entries_below}
 use Rattle.patricia_walks.specs.Internal.Positions.{Position, IsPosition, IsTop, state_of}
-use Rattle.patricia_walks.proofs.PositionLemmas.{position_top, left_top, position_end}
-use Rattle.patricia_walks.proofs.PositionLemmas.{position_start}
-use Rattle.patricia_nodes.proofs.PlanLemmas.{siblings_none}
+use Rattle.patricia_walks.specs.Internal.Fronts.{FrontPosition, IsFrontPosition, state_at}
+use Rattle.patricia_walks.proofs.FrontLemmas.{front_end, front_start, nothing_left}
+use Rattle.patricia_walks.proofs.PositionLemmas.{position_top, left_top}
 use Rattle.patricia_model.proofs.WalkLemmas.{left_start}
 use Rattle.patricia_model.specs.Internal.WalkStates.{entries_left}
 use Rattle.patricia_nodes.proofs.UnderLemmas.{place_nothing}
@@ -112,30 +112,30 @@ start_filled item kind s m is front top w = rw (← is.nodes)
 
 module _ {V : Type 0} (nodes : List (Node V)) (next : Option ℕ) where
   -- the place of a walk that has not begun
-  abbrev fresh : Option ValueSlot → Position ValueSlot
-  fresh pending = record { nodes = numbered_slots 0 nodes; path = []; pending = pending; next = next; stack = [] }
+  abbrev fresh : Option ValueSlot → FrontPosition ValueSlot
+  fresh pending = record { nodes = numbered_slots 0 nodes; path = []; front = 0; pending = pending; next = next; stack = [] }
 
   -- with no entry left it is over
-  pub ended_position : (item : List ℕ → Type 0) (p : Position ValueSlot) → next ≡ None
-      → p ≡ fresh None → IsPosition item p
-  ended_position item p none is = rw is (position_end item (fresh None) refl none refl)
+  pub ended_position : (item : List ℕ → Type 0) (p : FrontPosition ValueSlot) → next ≡ None
+      → p ≡ fresh None → IsFrontPosition item p
+  ended_position item p none is = rw is (front_end item (fresh None) refl refl none refl)
 
   -- at the end nothing is left
-  pub ended_left : (p : Position ValueSlot) → next ≡ None → p ≡ fresh None → entries_left (state_of p) ≡ []
-  ended_left p none is = rw (is, none, siblings_none (numbered_slots 0 nodes)) refl
+  pub ended_left : (p : FrontPosition ValueSlot) → next ≡ None → p ≡ fresh None → entries_left (state_at p) ≡ []
+  ended_left p none is = rw is (nothing_left (fresh None) refl none refl)
 
 module _ (item : List ℕ → Type 0) {V : Type 0} (s : NodeArena V) (whole : IsWellFormed s)
-    (p : Position ValueSlot) (pending : Option ValueSlot)
+    (p : FrontPosition ValueSlot) (pending : Option ValueSlot)
     (is : p ≡ fresh s.nodes.items s.root pending) where
   -- at the first entry nothing is passed
-  pub first_position : IsCanonical item (siblings_of s) → IsPosition item p
+  pub first_position : IsCanonical item (siblings_of s) → IsFrontPosition item p
   first_position ok =
       let m = marked s whole in
-      rw is (position_start item m.0 (fresh s.nodes.items s.root pending) m.1.whole
+      rw is (front_start item m.0 (fresh s.nodes.items s.root pending) m.1.whole
       (rw (m.1.nodes, m.1.root) ((siblings_marked s whole item).0 ok)) (sym m.1.nodes) refl
-      (sym m.1.root) refl)
+      refl (sym m.1.root) refl)
 
   -- at first all holders are left
   pub first_left : (value : Option V) → pending ≡ option_map (λ _. OfEmptyKey) value
-      → entries_left (state_of p) ≡ holders value s
-  first_left value due_is = rw (is, due_is) (left_start (state_of (fresh s.nodes.items s.root (option_map (λ _. OfEmptyKey) value))) refl refl)
+      → entries_left (state_at p) ≡ holders value s
+  first_left value due_is = rw (is, due_is) (left_start (state_at (fresh s.nodes.items s.root (option_map (λ _. OfEmptyKey) value))) refl refl)

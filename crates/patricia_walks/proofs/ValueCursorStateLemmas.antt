@@ -1,17 +1,16 @@
 -- What a cursor over values has left, and where it stands, from step to step.
-use Rattle.std.proofs.Common.{◌≡◌, ℕ, Bool, true, false, List, [], ◌∷◌, drop, Option, Some, None}
-use Rattle.std.proofs.Common.{refl, sym, ap, subst, ◌∙◌}
+use Rattle.std.proofs.Common.{◌≡◌, ℕ, Bool, true, false, List, [], ◌∷◌, ◌++◌, drop, Option, Some}
+use Rattle.std.proofs.Common.{None, refl, sym, ap, subst, ◌∙◌}
 use Rattle.std.specs.Prelude.{Result, Ok, Err, IfOk, OnErr}
-use Rattle.std.specs.Option.{is_some, option_map}
+use Rattle.std.specs.Option.{is_some}
 use Rattle.patricia_keys.specs.Keys.{IsKeyKind}
-use Rattle.patricia_model.specs.Siblings.{IsCanonical}
+use Rattle.patricia_model.specs.Siblings.{own}
 use Rattle.patricia_model.specs.Trees.{IsTree}
 use Rattle.patricia_model.specs.Walks.{values_of}
 use Rattle.patricia_model.proofs.PrefixLemmas.{under_empty}
 use Rattle.patricia_nodes.specs.Internal.Plans.{IsWellFormed, siblings_of}
 use Rattle.patricia_nodes.specs.declared.parts.TreeParts.{TreeParts}
 use Rattle.patricia_walks.specs.declared.held_tree.ValueSlot.{ValueSlot}
-use Rattle.patricia_walks.specs.declared.held_tree.ValueSlot.TheVariants.{OfEmptyKey}
 use Rattle.patricia_walks.specs.declared.value_cursor.ValueCursorState.{ValueCursorState}
 use Rattle.patricia_walks.specs.Internal.HeldTrees.{entries_to_lend, with_held, Refuses, Takes}
 use Rattle.patricia_walks.specs.Internal.Holders.{holders}
@@ -20,9 +19,7 @@ use Rattle.patricia_walks.specs.Internal.ValueCursorStates.{spot_of, holders_lef
 use Rattle.patricia_walks.specs.Internal.ValueCursorStates.{MoveIsRefused, IsValueCursorState}
 use Rattle.patricia_walks.proofs.HeldTreeLemmas.{Leaves, goes_so, gone_on, made_held, made_left}
 use Rattle.patricia_walks.proofs.HeldTreeLemmas.{refused}
-use Rattle.patricia_walks.proofs.HolderLemmas.{marked, siblings_marked}
 use Rattle.patricia_walks.proofs.LentLemmas.{wrote_last}
-use Rattle.patricia_walks.proofs.ValuePositionLemmas.{left_at_start, stands_at_start}
 
 -- entries without values are none
 no_entries : (entries : List (List ℕ × ValueSlot)) → values_of entries ≡ [] → entries ≡ []
@@ -110,34 +107,15 @@ module _ (item : List ℕ → Type 0) (kind : IsKeyKind item) {V : Type 0} (t : 
   wrote_values w =
       let wrote = wrote_last item kind t.tree [] w.held x in
       let place : spot_of (record t { tree = with_held t.tree t.tree.last x }) ≡ spot_of t = ap
-      (λ ns. record { nodes = ns; pending = t.pending; next = t.next; stack = t.stack.items })
-      wrote.nodes in
+      (λ ns. record { nodes = ns; next = t.front.next; stack = t.front.stack.items }) wrote.nodes in
       record {
         held = wrote.held;
         position = subst IsValuePosition (sym place) w.position;
-        left_is = ap values_left place ∙ w.left_is ∙ ap values_of (sym wrote.entries);
+        left_is = ap (λ p. values_of (own t.pending) ++ values_left p) place ∙ w.left_is ∙ ap values_of (sym wrote.entries);
       }
 
 module _ (item : List ℕ → Type 0) {V : Type 0} (p : TreeParts V) (t : ValueCursorState V)
     (whole : IsWellFormed p.arena) (made : t.tree.parts ≡ p) where
-  module _ (next : t.next ≡ t.tree.parts.arena.root) (stack : t.stack.items ≡ []) where
-    -- a new state stands at the top siblings
-    pub new_position : IsCanonical item (siblings_of p.arena) → IsValuePosition (spot_of t)
-    new_position ok =
-        let m = marked p.arena whole in
-        stands_at_start item m.0 (spot_of t) m.1.whole
-        (rw (m.1.nodes, m.1.root) ((siblings_marked p.arena whole item).0 ok))
-        (rw made (sym m.1.nodes)) (next ∙ rw made (sym m.1.root)) stack
-
-    -- and all holders are left
-    pub new_left : t.pending ≡ option_map (λ _. OfEmptyKey) t.tree.parts.value
-        → holders_left t ≡ values_of (holders p.value p.arena)
-    new_left pending =
-        let m = marked p.arena whole in
-        left_at_start m.0 (spot_of t) (rw made (sym m.1.nodes))
-        (next ∙ rw made (sym m.1.root)) stack
-        ∙ rw (pending, made, m.1.nodes, m.1.root) refl
-
   -- it is a state, of which nothing is lent yet
   pub new_state : IsTree item (siblings_of p.arena) p.count → t.tree.last ≡ None
       → IsValuePosition (spot_of t) → holders_left t ≡ values_of (holders p.value p.arena)

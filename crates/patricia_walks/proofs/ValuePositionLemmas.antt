@@ -1,6 +1,6 @@
 -- How the steps of a walk over values change what it has left of nodes in one vector.
 use Rattle.std.proofs.Common.{◌≡◌, ◌≢◌, ℕ, ◌+◌, ◌<◌, List, [], ◌∷◌, ◌++◌, length, get_or, Option}
-use Rattle.std.proofs.Common.{Some, None, refl, sym, ap, subst, ◌∙◌, arith}
+use Rattle.std.proofs.Common.{slice_get, Some, None, refl, sym, ap, subst, ◌∙◌, arith}
 use Rattle.std.proofs.lemmas.List.{map-append, append_assoc, append-nil}
 use Rattle.patricia_model.specs.Siblings.{Siblings, end, node, prefixed, own, entries, IsCanonical}
 use Rattle.patricia_model.specs.Walks.{values_of}
@@ -10,23 +10,28 @@ use Rattle.patricia_nodes.specs.declared.arena.NodeArena.{NodeArena}
 use Rattle.patricia_nodes.specs.Internal.Plans.{Plan, Nil, Cell, head, siblings_in, plan_at}
 use Rattle.patricia_nodes.specs.Internal.Plans.{siblings_of, entries_of, IsPlan, IsWellFormed}
 use Rattle.patricia_nodes.specs.Internal.Plans.{siblings_at}
+use Rattle.patricia_nodes.specs.Internal.NodeVecs.{value_in}
+use Rattle.patricia_nodes.proofs.NodeVecLemmas.{reads_there}
 use Rattle.patricia_nodes.proofs.PlanLemmas.{plan_is, siblings_none}
 use Rattle.patricia_nodes.proofs.SeekLemmas.{head_within, opened, whole_plan}
+use Rattle.patricia_walks.specs.declared.held_tree.ValueSlot.{ValueSlot}
+use Rattle.patricia_walks.specs.declared.held_tree.ValueSlot.TheVariants.{OfNode}
+use Rattle.patricia_walks.specs.declared.value_front.ValueFront.{ValueFront}
+use Rattle.patricia_walks.specs.Internal.Holders.{numbered_slots, holders, held, ReadsHeld}
 use Rattle.patricia_walks.specs.Internal.ValuePositions.{ValuePosition, values_in, values_waiting}
 use Rattle.patricia_walks.specs.Internal.ValuePositions.{values_left, value_steps_waiting}
 use Rattle.patricia_walks.specs.Internal.ValuePositions.{HasValues, AreValueSiblings}
-use Rattle.patricia_walks.specs.Internal.ValuePositions.{AllValueSiblings, IsValuePosition, GoesTo}
+use Rattle.patricia_walks.specs.Internal.ValuePositions.{AllValueSiblings, IsValuePosition, Passes}
+use Rattle.patricia_walks.specs.Internal.ValuePositions.{place_of, values_held, AllHold}
+use Rattle.patricia_walks.specs.Internal.ValuePositions.{values_ahead, IsFrontOf}
+use Rattle.patricia_walks.proofs.HolderLemmas.{plan_marked, siblings_marked, holders_read}
+use Rattle.patricia_walks.proofs.NumberLemmas.{plan-marks}
 
 module _ {A : Type 0} where
   -- two lists are empty only where the first is
   first_filled : (xs ys : List A) → xs ≢ [] → xs ++ ys ≢ []
   first_filled [] ys some = λ e. some refl
   first_filled (x ∷ xs) ys some = λ e. absurd (cc)
-
-  -- and only where the second is
-  second_filled : (xs ys : List A) → ys ≢ [] → xs ++ ys ≢ []
-  second_filled [] ys some = some
-  second_filled (x ∷ xs) ys some = λ e. absurd (cc)
 
 module _ {V : Type 0} where
   -- bytes before the keys leave the values
@@ -36,7 +41,7 @@ module _ {V : Type 0} where
   values_of-prefixed p (e ∷ es) = ap (λ r. e.1 ∷ r) (values_of-prefixed p es)
 
   -- the values of two lists of entries are those of the first and then those of the second
-  values_of-append : (xs ys : List (List ℕ × V))
+  pub values_of-append : (xs ys : List (List ℕ × V))
       → values_of (xs ++ ys) ≡ values_of xs ++ values_of ys
   values_of-append xs ys = map-append (λ (e : List ℕ × V). e.1) xs ys
 
@@ -131,8 +136,7 @@ module _ {V : Type 0} (nodes : List (Node V)) (at : Option ℕ) (id : ℕ) (n : 
       }
 
 module _ {V : Type 0} (p q : ValuePosition V) (id : ℕ) (n : Node V) (w : IsValuePosition p)
-    (taken : p.pending ≡ None) (next : p.next ≡ Some id) (reads : n ≡ get_or p.nodes id n)
-    (nodes : q.nodes ≡ p.nodes) (pending : q.pending ≡ n.value) where
+    (next : p.next ≡ Some id) (reads : n ≡ get_or p.nodes id n) (nodes : q.nodes ≡ p.nodes) where
   -- the siblings that are next, by the first of them
   next_first : First p.nodes p.next id n w.next_siblings next reads
   next_first = first_of_siblings p.nodes p.next id n w.next_siblings next reads
@@ -146,47 +150,46 @@ module _ {V : Type 0} (p q : ValuePosition V) (id : ℕ) (n : Node V) (w : IsVal
       let c = siblings_at p.nodes n.child in
       let s = siblings_at p.nodes n.sibling in
       let rest = values_waiting p.nodes p.stack in
-      ap (λ d. values_of (own d) ++ (values_in (siblings_at p.nodes p.next) ++ rest)) taken
-      ∙ ap (λ r. values_in r ++ rest) next_first.siblings_are
+      ap (λ r. values_in r ++ rest) next_first.siblings_are
       ∙ ap (λ l. l ++ rest) (values_in-first n.label n.value c s)
       ∙ append_assoc (values_of (own n.value ++ entries c)) (values_in s) rest
       ∙ ap (λ l. l ++ (values_in s ++ rest)) (values_of-append (own n.value) (entries c))
       ∙ append_assoc v (values_in c) (values_in s ++ rest)
 
   -- the step to the siblings of a node without children
-  pub goes_beside : n.child ≡ None → q.next ≡ n.sibling → q.stack ≡ p.stack → GoesTo p q
+  pub goes_beside : n.child ≡ None → q.next ≡ n.sibling → q.stack ≡ p.stack → Passes p n.value q
   goes_beside alone next' stack = record {
     position = record { next_siblings = rw (nodes, next') next_first.sibling; siblings = rw (nodes, stack) w.siblings };
-    same = rw (nodes, pending, next', stack)
-        (sym (left_first ∙ ap
+    left = rw (nodes, next', stack)
+        (left_first ∙ ap
         (λ r. values_of (own n.value) ++ (values_in r
         ++ (values_in (siblings_at p.nodes n.sibling) ++ values_waiting p.nodes p.stack)))
-        (ap (siblings_at p.nodes) alone ∙ siblings_none p.nodes)));
+        (ap (siblings_at p.nodes) alone ∙ siblings_none p.nodes));
     less = rw (nodes, next', stack) (omega (arith, ap steps_in next_first.siblings_are));
   }
 
   -- the step to the children of a node without siblings
-  pub goes_below : n.sibling ≡ None → q.next ≡ n.child → q.stack ≡ p.stack → GoesTo p q
+  pub goes_below : n.sibling ≡ None → q.next ≡ n.child → q.stack ≡ p.stack → Passes p n.value q
   goes_below alone next' stack = record {
     position = record { next_siblings = rw (nodes, next') next_first.child; siblings = rw (nodes, stack) w.siblings };
-    same = rw (nodes, pending, next', stack)
-        (sym (left_first ∙ ap
+    left = rw (nodes, next', stack)
+        (left_first ∙ ap
         (λ r. values_of (own n.value) ++ (values_in (siblings_at p.nodes n.child)
         ++ (values_in r ++ values_waiting p.nodes p.stack)))
-        (ap (siblings_at p.nodes) alone ∙ siblings_none p.nodes)));
+        (ap (siblings_at p.nodes) alone ∙ siblings_none p.nodes));
     less = rw (nodes, next', stack) (omega (arith, ap steps_in next_first.siblings_are));
   }
 
   -- the step to the children of a node whose siblings wait
-  pub goes_down : q.next ≡ n.child → q.stack ≡ p.stack ++ n.sibling ∷ [] → GoesTo p q
+  pub goes_down : q.next ≡ n.child → q.stack ≡ p.stack ++ n.sibling ∷ [] → Passes p n.value q
   goes_down next' stack = record {
     position = record {
       next_siblings = rw (nodes, next') next_first.child;
       siblings = rw (nodes, stack) (value_siblings-snoc p.nodes p.stack n.sibling w.siblings next_first.sibling);
     };
-    same = rw (nodes, pending, next', stack)
-        (ap (λ l. values_of (own n.value) ++ (values_in (siblings_at p.nodes n.child) ++ l))
-        (values_waiting-snoc p.nodes p.stack n.sibling) ∙ sym left_first);
+    left = rw (nodes, next', stack)
+        (left_first ∙ ap (λ l. values_of (own n.value) ++ (values_in (siblings_at p.nodes n.child) ++ l))
+        (sym (values_waiting-snoc p.nodes p.stack n.sibling)));
     less = rw (nodes, next', stack)
         (omega (
           arith,
@@ -198,32 +201,30 @@ module _ {V : Type 0} (p q : ValuePosition V) (id : ℕ) (n : Node V) (w : IsVal
 
 module _ {V : Type 0} where
   -- the step back to the siblings that wait last
-  pub goes_back : (p q : ValuePosition V) (at : Option ℕ) → IsValuePosition p → p.pending ≡ None
-      → p.next ≡ None → p.stack ≡ q.stack ++ at ∷ [] → q.nodes ≡ p.nodes → q.pending ≡ p.pending
-      → q.next ≡ at → GoesTo p q
-  goes_back p q at w taken next stack nodes pending next' =
-      let last = value_siblings-last p.nodes q.stack at (subst (AllValueSiblings p.nodes) stack w.siblings) in
+  pub goes_back : (p q : ValuePosition V) → IsValuePosition p → p.next ≡ None
+      → p.stack ≡ q.stack ++ q.next ∷ [] → q.nodes ≡ p.nodes → Passes p None q
+  goes_back p q w next stack nodes =
+      let last = value_siblings-last p.nodes q.stack q.next (subst (AllValueSiblings p.nodes) stack w.siblings) in
       let over = ap (siblings_at p.nodes) next ∙ siblings_none p.nodes in
       let rest = values_waiting p.nodes p.stack in
       record {
-        position = record { next_siblings = rw (nodes, next') last.0; siblings = rw nodes last.1 };
-        same = rw (nodes, pending, taken, next')
-            (sym (ap (λ r. values_in r ++ rest) over ∙ ap (values_waiting p.nodes) stack
-            ∙ values_waiting-snoc p.nodes q.stack at));
-        less = rw (nodes, next')
+        position = record { next_siblings = rw nodes last.0; siblings = rw nodes last.1 };
+        left = rw nodes
+            (ap (λ r. values_in r ++ rest) over ∙ ap (values_waiting p.nodes) stack
+            ∙ values_waiting-snoc p.nodes q.stack q.next);
+        less = rw nodes
             (omega (
               arith,
               ap steps_in over,
               ap (value_steps_waiting p.nodes) stack,
-              value_steps_waiting-snoc p.nodes q.stack at,
+              value_steps_waiting-snoc p.nodes q.stack q.next,
             ));
       }
 
   -- where no siblings are next and none wait, no value is left
-  pub nothing_left : (p : ValuePosition V) → p.pending ≡ None → p.next ≡ None → p.stack ≡ []
-      → values_left p ≡ []
-  nothing_left p taken next stack =
-      rw (taken, next, stack) (ap (λ r. values_in r ++ []) (siblings_none p.nodes))
+  pub nothing_left : (p : ValuePosition V) → p.next ≡ None → p.stack ≡ [] → values_left p ≡ []
+  nothing_left p next stack =
+      rw (next, stack) (ap (λ r. values_in r ++ []) (siblings_none p.nodes))
 
   -- and the walk stands at its end
   pub stands_at_end : (p : ValuePosition V) → p.next ≡ None → p.stack ≡ [] → IsValuePosition p
@@ -245,23 +246,82 @@ module _ {V : Type 0} where
       by (Cell i l v c d) is at =
           let has = subst HasValues (ap siblings_in is) w.next_siblings.has_values in
           let some = subst (λ (r : Siblings V). values_in r ≢ []) (sym (ap siblings_in is)) (values_in-filled l v (siblings_in c) (siblings_in d) has) in
-          second_filled (values_of (own p.pending)) _
-          (first_filled (values_in (siblings_at p.nodes p.next)) (values_waiting p.nodes p.stack) some)
+          first_filled (values_in (siblings_at p.nodes p.next)) (values_waiting p.nodes p.stack) some
 
+module _ {V : Type 0} (nodes : List (Node V)) where
+  -- the values of entries are those that their holders hold
+  held_is : (es : List (List ℕ × ValueSlot)) (rs : List (List ℕ × V))
+      → ReadsHeld (held None nodes) es rs → values_held nodes (values_of es) ≡ values_of rs
+  held_is [] [] reads = refl
+  held_is [] (r ∷ rs) reads = absurd reads
+  held_is (e ∷ es) [] reads = absurd reads
+  held_is (e ∷ es) (r ∷ rs) reads =
+      ap (λ v. values_of (own v) ++ values_held nodes (values_of es)) reads.1
+      ∙ ap (λ l. r.1 ∷ l) (held_is es rs reads.2)
+
+  -- and each of them holds one
+  all_hold : (es : List (List ℕ × ValueSlot)) (rs : List (List ℕ × V))
+      → ReadsHeld (held None nodes) es rs → AllHold nodes (values_of es)
+  all_hold [] [] reads = tt
+  all_hold [] (r ∷ rs) reads = absurd reads
+  all_hold (e ∷ es) [] reads = absurd reads
+  all_hold (e ∷ es) (r ∷ rs) reads = (λ none. absurd (cc), all_hold es rs reads.2)
+
+  -- where there are holders of values, there are values
+  pub held_filled : (hs : List ValueSlot) → AllHold nodes hs → hs ≢ [] → values_held nodes hs ≢ []
+  held_filled [] hold some = λ e. some refl
+  held_filled (h ∷ hs) hold some = by (held None nodes h) refl
+    where
+      by : (v : Option V) → held None nodes h ≡ v → values_held nodes (h ∷ hs) ≢ []
+      by None is = absurd (hold.0 is)
+      by (Some v) is = rw is (λ e. absurd (cc))
+
+  -- where a node that is read holds a value, it is this one
+  pub held_read : (id : ℕ) (v : Option V) → held None nodes (OfNode id) ≢ None
+      → ((n : Node V) → n ≡ get_or nodes id n → v ≡ n.value) → held None nodes (OfNode id) ≡ v
+  held_read id v some reads = by (slice_get nodes id) refl
+    where
+      by : (o : Option (Node V)) → slice_get nodes id ≡ o → held None nodes (OfNode id) ≡ v
+      by None is = absurd (some (ap value_in is))
+      by (Some n) is = ap value_in is ∙ sym (reads n (reads_there nodes id n is))
+
+  -- a walk that is over has no values left
+  pub ended_ahead : (f : ValueFront) → f.next ≡ None → f.stack.items ≡ []
+      → values_ahead nodes f ≡ []
+  ended_ahead f next stack = ap (values_held nodes) (nothing_left (place_of nodes f) next stack)
+
+  pub ended_front : (f : ValueFront) → f.next ≡ None → f.stack.items ≡ [] → IsFrontOf nodes f
+  ended_front f next stack = record {
+    position = stands_at_end (place_of nodes f) next stack;
+    hold = subst (AllHold nodes) (sym (nothing_left (place_of nodes f) next stack)) tt;
+  }
+
+module _ (item : List ℕ → Type 0) {V : Type 0} (s : NodeArena V) (f : ValueFront)
+    (whole : IsWellFormed s) (next : f.next ≡ s.root) (stack : f.stack.items ≡ []) where
   -- at its start a walk stands at the top siblings
-  pub stands_at_start : (item : List ℕ → Type 0) (s : NodeArena V) (p : ValuePosition V)
-      → IsWellFormed s → IsCanonical item (siblings_of s) → p.nodes ≡ s.nodes.items
-      → p.next ≡ s.root → p.stack ≡ [] → IsValuePosition p
-  stands_at_start item s p whole ok nodes next stack = record {
-    next_siblings = rw (nodes, next) (record { plan = whole_plan s whole; has_values = canonical_values item (siblings_of s) ok });
+  pub stands_at_start : IsCanonical item (siblings_of s)
+      → IsValuePosition (place_of s.nodes.items f)
+  stands_at_start ok = record {
+    next_siblings = rw next (record {
+      plan = rw (plan_marked s whole) (plan-marks s.nodes.items s.root _ (whole_plan s whole));
+      has_values = canonical_values item _ ((siblings_marked s whole item).0 ok);
+    });
     siblings = rw stack tt;
   }
 
-  -- and all values are left
-  pub left_at_start : (s : NodeArena V) (p : ValuePosition V) → p.nodes ≡ s.nodes.items
-      → p.next ≡ s.root → p.stack ≡ []
-      → values_left p ≡ values_of (own p.pending ++ entries_of s)
-  left_at_start s p nodes next stack =
-      rw (nodes, next, stack)
-      (ap (λ l. values_of (own p.pending) ++ l) (append-nil (values_in (siblings_of s)))
-      ∙ sym (values_of-append (own p.pending) (entries_of s)))
+  -- and all holders are left
+  pub left_at_start : values_left (place_of s.nodes.items f) ≡ values_of (holders None s)
+  left_at_start =
+      rw (next, stack) (append-nil (values_in (siblings_at (numbered_slots 0 s.nodes.items) s.root)))
+
+  -- so it has the values of the nodes left
+  pub ahead_at_start : values_ahead s.nodes.items f ≡ values_of (entries_of s)
+  ahead_at_start =
+      ap (values_held s.nodes.items) left_at_start
+      ∙ held_is s.nodes.items _ _ (holders_read s whole None)
+
+  pub front_at_start : IsCanonical item (siblings_of s) → IsFrontOf s.nodes.items f
+  front_at_start ok = record {
+    position = stands_at_start ok;
+    hold = subst (AllHold s.nodes.items) (sym left_at_start) (all_hold s.nodes.items _ _ (holders_read s whole None));
+  }

@@ -1,19 +1,18 @@
 //! How far a cursor has come over a tree that it owns.
-ghost use Rattle.std.specs.Prelude.{◌≡◌, ◌≢◌, Some, None, false, [], IfOk, IfSome, IfNone, OnOk};
-ghost use Rattle.std.specs.Prelude.{OnErr, IsTrue};
+ghost use Rattle.std.specs.Prelude.{◌≡◌, ◌≢◌, ◌<◌, Some, None, false, [], IfOk, IfSome, IfNone};
+ghost use Rattle.std.specs.Prelude.{OnOk, OnErr, IsTrue};
 ghost use Rattle.std.specs.Option.{option_map};
 ghost use Rattle.patricia_model.specs.Prefixes.{under};
 ghost use Rattle.patricia_model.specs.Siblings.{IsCanonical};
-ghost use Rattle.patricia_model.specs.Internal.WalkStates.{entries_left};
 ghost use Rattle.patricia_nodes.specs.Internal.Plans.{IsWellFormed, siblings_of, siblings_at};
-ghost use Rattle.patricia_walks.specs.Internal.Positions.{IsPosition, AdvancesTo, state_of};
+ghost use Rattle.patricia_walks.specs.Internal.Fronts.{IsFrontPosition, moves_left};
 ghost use Rattle.patricia_nodes.specs.Internal.Places.{entries_below};
 ghost use Rattle.patricia_walks.specs.Internal.Holders.{numbered_slots, holders};
 ghost use Rattle.patricia_walks.specs.Internal.CursorStates.{position_of, left_of, Advances};
 ghost use Rattle.patricia_walks.specs.Internal.CursorStates.{StepIsRefused, IsAtStart, StartsUnder};
 
 use crate::held_tree::{HeldTree, ValueSlot, held_by};
-use crate::waiting::push_siblings;
+use crate::progress::Progress;
 use patricia_keys::{BorrowedBytes, Bytes};
 use patricia_nodes::arena::NodeArena;
 use patricia_nodes::link::{Link, NodeId};
@@ -32,14 +31,9 @@ pub struct Start {
 #[derive(Drop)]
 pub struct CursorState<V> {
     pub tree: HeldTree<V>,
-    // the key of the value that is due, which stands before the keys of the siblings
-    pub path: Vec<u8>,
+    pub progress: Progress,
     // who holds the value at the path, while it is due
     pub pending: Option<ValueSlot>,
-    // the siblings that are next
-    pub next: Link,
-    // the siblings that wait, behind so many bytes of the path
-    pub stack: Vec<(usize, Link)>,
 }
 
 /// Where a walk under a prefix that is not empty begins, if there is a key under it.
@@ -63,6 +57,7 @@ impl<V> CursorState<V> {
         ensures seen { position_of result ≡ record {
           nodes = numbered_slots 0 tree.parts.arena.nodes.items;
           path = [];
+          front = 0;
           pending = pending;
           next = next;
           stack = [];
@@ -71,10 +66,8 @@ impl<V> CursorState<V> {
         let alloc = tree.parts.alloc;
         CursorState {
             tree,
-            path: Vec::new(alloc),
+            progress: Progress::new(alloc, next),
             pending,
-            next,
-            stack: Vec::new(alloc),
         }
     }
 
@@ -83,7 +76,7 @@ impl<V> CursorState<V> {
         requires whole { IsWellFormed parts.arena }
         requires siblings { IsCanonical K.item (siblings_of parts.arena) }
         ensures tree { result.tree.parts ≡ parts }
-        ensures position { IsPosition K.item (position_of result) }
+        ensures position { IsFrontPosition K.item (position_of result) }
         ensures left { left_of result ≡ holders parts.value parts.arena }
         ensures last { result.tree.last ≡ None }
     {
@@ -96,63 +89,40 @@ impl<V> CursorState<V> {
     /// The state of a cursor at its end.
     pub fn ended<K: Bytes>(parts: TreeParts<V>) -> CursorState<V>
         ensures tree { result.tree.parts ≡ parts }
-        ensures position { IsPosition K.item (position_of result) }
+        ensures position { IsFrontPosition K.item (position_of result) }
         ensures left { left_of result ≡ [] }
-        ensures stack { result.stack.items ≡ [] }
+        ensures stack { result.progress.stack.items ≡ [] }
         ensures last { result.tree.last ≡ None }
     {
         let tree = HeldTree { parts, last: None };
         CursorState::from(tree, None, Link::none())
     }
 
-    // Advances to the node's value and its children.
+    // Advances to the node that is next, whose value is due then.
     fn descend<K: Bytes>(&mut self, id: NodeId) -> Result<(), AllocError>
-        requires position { IsPosition K.item (position_of self.old) }
+        requires position { IsFrontPosition K.item (position_of self.old) }
         requires taken { self.old.pending ≡ None }
-        requires next { self.old.next ≡ Some id }
-        ensures goes { OnOk result
-            (AdvancesTo K.item (position_of self.old) (position_of self.new)) }
-        ensures refused { OnErr result (position_of self.new ≡ position_of self.old) }
+        requires next { self.old.progress.next ≡ Some id }
+        ensures position { IsFrontPosition K.item (position_of self.new) }
+        ensures left { left_of self.new ≡ left_of self.old }
+        ensures less { OnOk result
+            (moves_left (position_of self.new) < moves_left (position_of self.old)) }
         ensures tree { self.new.tree.parts ≡ self.old.tree.parts }
         ensures last { self.new.tree.last ≡ self.old.tree.last }
     {
         let nodes = &self.tree.parts.arena.nodes;
-        let front = self.path.len();
-        self.path.extend_from_slice(nodes.label(id))?;
-        let Ok(()) = push_siblings(&mut self.stack, front, nodes.sibling(id)) else {
-            self.path.truncate(front);
-            return Err(AllocError);
-        };
-        self.pending = held_by(nodes, id);
-        self.next = nodes.child(id);
+        // read first, so that it waits for memory together with the label
+        let holder = held_by(nodes, id);
+        self.progress.enter::<K, V>(nodes, id)?;
+        self.pending = holder;
         Ok(())
-    }
-
-    // Goes back to the siblings that wait last, if any wait.
-    fn back<K: Bytes>(&mut self) -> bool
-        requires position { IsPosition K.item (position_of self.old) }
-        requires taken { self.old.pending ≡ None }
-        requires over { self.old.next ≡ None }
-        ensures step { IsTrue result →
-            AdvancesTo K.item (position_of self.old) (position_of self.new) }
-        ensures over { result ≡ false → entries_left (state_of (position_of self.old)) ≡ [] }
-        ensures same { result ≡ false → position_of self.new ≡ position_of self.old }
-        ensures tree { self.new.tree.parts ≡ self.old.tree.parts }
-        ensures last { self.new.tree.last ≡ self.old.tree.last }
-    {
-        let Some((front, siblings)) = self.stack.pop() else {
-            return false;
-        };
-        self.path.truncate(front);
-        self.next = siblings;
-        true
     }
 
     // Advances to the next value, whose key is then the path, and who holds it is due. The answer
     // is false where there is none.
     fn seek<K: Bytes>(&mut self) -> Result<bool, AllocError>
-        requires { IsPosition K.item (position_of self.old) }
-        ensures position { IsPosition K.item (position_of self.new) }
+        requires { IsFrontPosition K.item (position_of self.old) }
+        ensures position { IsFrontPosition K.item (position_of self.new) }
         ensures left { left_of self.new ≡ left_of self.old }
         ensures found { IfOk result (λ found. IsTrue found → self.new.pending ≢ None) }
         ensures over { IfOk result (λ found. found ≡ false → left_of self.old ≡ []) }
@@ -164,10 +134,10 @@ impl<V> CursorState<V> {
             if self.pending.is_some() {
                 return Ok(true);
             }
-            match self.next.get() {
+            match self.progress.next.get() {
                 Some(id) => self.descend::<K>(id)?,
                 None => {
-                    if !self.back::<K>() {
+                    if !self.progress.back() {
                         return Ok(false);
                     }
                 }
@@ -177,10 +147,10 @@ impl<V> CursorState<V> {
 
     // Takes the value that is due for lent.
     fn mark_lent<K: Bytes>(&mut self)
-        requires position { IsPosition K.item (position_of self.old) }
+        requires position { IsFrontPosition K.item (position_of self.old) }
         requires pending { self.old.pending ≢ None }
-        ensures position { IsPosition K.item (position_of self.new) }
-        ensures goes { Advances self.old (Some self.old.path.items) self.new }
+        ensures position { IsFrontPosition K.item (position_of self.new) }
+        ensures goes { Advances self.old (Some self.old.progress.path.items) self.new }
         ensures tree { self.new.tree.parts ≡ self.old.tree.parts }
     {
         self.tree.last = self.pending.take();
@@ -188,8 +158,8 @@ impl<V> CursorState<V> {
 
     /// Advances to the next value, and returns its key.
     pub fn advance<K: Bytes>(&mut self) -> Result<Option<K>, AllocError>
-        requires { IsPosition K.item (position_of self.old) }
-        ensures position { IsPosition K.item (position_of self.new) }
+        requires { IsFrontPosition K.item (position_of self.old) }
+        ensures position { IsFrontPosition K.item (position_of self.new) }
         ensures goes { IfOk result (λ key. Advances self.old (option_map K.key key) self.new) }
         ensures refused { OnErr result (StepIsRefused self.old self.new) }
         ensures tree { self.new.tree.parts ≡ self.old.tree.parts }
@@ -197,7 +167,7 @@ impl<V> CursorState<V> {
         if !self.seek::<K>()? {
             return Ok(None);
         }
-        let key = K::from_bytes(self.tree.parts.alloc, &self.path)?;
+        let key = K::from_bytes(self.tree.parts.alloc, &self.progress.path)?;
         self.mark_lent::<K>();
         Ok(Some(key))
     }
@@ -207,8 +177,8 @@ impl<V> CursorState<V> {
         requires whole { IsWellFormed self.old.tree.parts.arena }
         requires start { IsAtStart K.item
             (numbered_slots 0 self.old.tree.parts.arena.nodes.items) front.now top }
-        requires stack { self.old.stack.items ≡ [] }
-        ensures position { OnOk result (IsPosition K.item (position_of self.new)) }
+        requires stack { self.old.progress.stack.items ≡ [] }
+        ensures position { OnOk result (IsFrontPosition K.item (position_of self.new)) }
         ensures left { OnOk result (left_of self.new ≡ entries_below front.now
             (siblings_at (numbered_slots 0 self.old.tree.parts.arena.nodes.items) (Some top))) }
         ensures unchanged { OnErr result (self.new ≡ self.old) }
@@ -220,9 +190,10 @@ impl<V> CursorState<V> {
         let mut path = Vec::with_capacity(self.tree.parts.alloc, front.len() + label.len())?;
         path.extend_from_slice(front)?;
         path.extend_from_slice(label)?;
-        self.path = path;
+        self.progress.front = path.len();
+        self.progress.path = path;
         self.pending = held_by(nodes, top);
-        self.next = nodes.child(top);
+        self.progress.next = nodes.child(top);
         Ok(())
     }
 }

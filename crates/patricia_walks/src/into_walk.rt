@@ -1,8 +1,7 @@
 //! Walks that take the values out of nodes in one vector, in key order.
 //!
 //! The nodes stay in the vector. They are dropped with the walk, or at an error.
-ghost use Rattle.std.specs.Prelude.{◌≡◌, ◌≢◌, ◌++◌, [], Some, None, false, IfOk, OnOk, OnErr};
-ghost use Rattle.std.specs.Prelude.{IsTrue, length};
+ghost use Rattle.std.specs.Prelude.{◌≡◌, ◌≢◌, ◌++◌, [], length, Some, None, IfOk, OnOk, OnErr};
 ghost use Rattle.std.specs.Iterator.{at_most};
 ghost use Rattle.patricia_model.specs.Siblings.{own, IsCanonical};
 ghost use Rattle.patricia_model.specs.Internal.WalkStates.{entries_left, TakesEntry};
@@ -10,11 +9,10 @@ ghost use Rattle.patricia_model.specs.Walks.{YieldsOrErr};
 ghost use Rattle.patricia_nodes.specs.Internal.Plans.{IsWellFormed, siblings_of, entries_of};
 ghost use Rattle.patricia_walks.specs.Internal.Fronts.{owned, state_at, IsFrontPosition, Moves};
 
-use crate::waiting::push_siblings;
+use crate::progress::Progress;
 use patricia_keys::Bytes;
 use patricia_nodes::arena::NodeArena;
-use patricia_nodes::link::{Link, NodeId};
-use patricia_nodes::path::extend_path;
+use patricia_nodes::link::NodeId;
 use std::alloc::{AllocError, Global};
 use std::iter::FusedIterator;
 use std::marker::{Model, PhantomData};
@@ -23,16 +21,9 @@ use std::marker::{Model, PhantomData};
 #[derive(Drop)]
 struct OwnedTraversal<V> {
     arena: NodeArena<V>,
-    // the key of the last value
-    path: Vec<u8>,
-    // how many bytes of the path stand before the keys of the siblings that are next
-    front: usize,
+    progress: Progress,
     // the value at the path, while it is due
     pending: Option<V>,
-    // the siblings that are next
-    next: Link,
-    // the siblings that wait, behind so many bytes of the path
-    stack: Vec<(usize, Link)>,
 }
 
 impl<V: Drop> OwnedTraversal<V> {
@@ -42,53 +33,19 @@ impl<V: Drop> OwnedTraversal<V> {
         ensures place { IsFrontPosition K.item (owned self.new) }
     {
         self.arena.clear();
-        self.path.clear();
-        self.front = 0;
+        self.progress.finish();
         self.pending = None;
-        self.next = Link::none();
-        self.stack.clear();
     }
 
-    // Advances to the node that is next, and takes its value. Its children are next then, and its
-    // siblings wait; or its siblings are next, where it has no children.
+    // Advances to the node that is next, and takes its value.
     fn descend<K: Bytes>(&mut self, id: NodeId) -> Result<Option<V>, AllocError>
         requires place { IsFrontPosition K.item (owned self.old) }
         requires taken { (owned self.old).pending ≡ None }
-        requires next { self.old.next ≡ Some id }
+        requires next { self.old.progress.next ≡ Some id }
         ensures { IfOk result (λ value. Moves K.item (owned self.old) value (owned self.new)) }
     {
-        let nodes = &self.arena.nodes;
-        let label = nodes.label(id);
-        let child = nodes.child(id);
-        let sibling = nodes.sibling(id);
-        let front = self.front;
-        self.path.truncate(front);
-        extend_path(&mut self.path, label)?;
-        if child.get().is_none() {
-            self.next = sibling;
-            return Ok(self.arena.nodes.replace_value(id, None));
-        }
-        push_siblings(&mut self.stack, front, sibling)?;
-        self.front = self.path.len();
-        self.next = child;
+        self.progress.enter::<K, V>(&self.arena.nodes, id)?;
         Ok(self.arena.nodes.replace_value(id, None))
-    }
-
-    // Goes back to the siblings that wait last, if any wait. The path stays.
-    fn back<K: Bytes>(&mut self) -> bool
-        requires place { IsFrontPosition K.item (owned self.old) }
-        requires taken { (owned self.old).pending ≡ None }
-        requires over { self.old.next ≡ None }
-        ensures step { IsTrue result → Moves K.item (owned self.old) None (owned self.new) }
-        ensures over { result ≡ false → entries_left (state_at (owned self.old)) ≡ [] }
-        ensures stays { result ≡ false → owned self.new ≡ owned self.old }
-    {
-        let Some((front, siblings)) = self.stack.pop() else {
-            return false;
-        };
-        self.front = front;
-        self.next = siblings;
-        true
     }
 
     // Takes the next value, whose key is then the path.
@@ -103,14 +60,14 @@ impl<V: Drop> OwnedTraversal<V> {
             return Ok(Some(value));
         }
         loop {
-            match self.next.get() {
+            match self.progress.next.get() {
                 Some(id) => {
                     if let Some(value) = self.descend::<K>(id)? {
                         return Ok(Some(value));
                     }
                 }
                 None => {
-                    if !self.back::<K>() {
+                    if !self.progress.back() {
                         return Ok(None);
                     }
                 }
@@ -148,16 +105,13 @@ impl<K: Bytes, V: Drop> IntoWalk<K, V> {
         requires siblings { IsCanonical K.item (siblings_of arena) }
         ensures { result ≡ own pending ++ entries_of arena }
     {
-        let next = arena.root;
+        let progress = Progress::new(alloc, arena.root);
         IntoWalk {
             alloc,
             place: OwnedTraversal {
                 arena,
-                path: Vec::new(alloc),
-                front: 0,
+                progress,
                 pending,
-                next,
-                stack: Vec::new(alloc),
             },
             kind: PhantomData,
         }
@@ -173,7 +127,7 @@ impl<K: Bytes, V: Drop> Iterator for IntoWalk<K, V> {
 
     fn next(&mut self) -> Option<Result<(K, V), AllocError>> {
         match self.place.seek::<K>() {
-            Ok(Some(value)) => match K::from_bytes(self.alloc, &self.place.path) {
+            Ok(Some(value)) => match K::from_bytes(self.alloc, &self.place.progress.path) {
                 Ok(key) => Some(Ok((key, value))),
                 Err(error) => {
                     self.place.finish::<K>();

@@ -162,7 +162,9 @@ impl<'a, Q: BorrowedBytes, V> RangeReadCursor<'a, Q, V> {
             IsTrue found → length self.old.left ≡ length self.new.left + 1) }
         ensures ended { OnErr result (self.new ≡ before_entries []) }
     {
-        begin(self.alloc, self.start.take(), &mut self.cursor)?;
+        if self.start.is_some() {
+            begin(self.alloc, self.start.take(), &mut self.cursor)?;
+        }
         step(&mut self.cursor, self.bound)
     }
 

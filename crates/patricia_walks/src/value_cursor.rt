@@ -1,8 +1,5 @@
 //! A cursor that owns a tree and lends its values one at a time, in the order of their keys.
-//!
-//! It reads no label and keeps no key, only the siblings that are still to come.
-ghost use Rattle.std.specs.Prelude.{◌≡◌, ◌≢◌, ◌↔◌, [], Some, None, true, false, IfOk, OnOk, OnErr};
-ghost use Rattle.std.specs.Prelude.{IsTrue};
+ghost use Rattle.std.specs.Prelude.{◌≡◌, ◌≢◌, ◌↔◌, [], Some, None, IfOk, OnOk, OnErr, IsTrue};
 ghost use Rattle.std.specs.Borrow.{sem};
 ghost use Rattle.std.specs.Option.{option_copied_mut, option_map};
 ghost use Rattle.patricia_model.specs.Cursors.{last_value, next_key, stepped};
@@ -11,13 +8,13 @@ ghost use Rattle.patricia_model.specs.Trees.{map_of, IsTree};
 ghost use Rattle.patricia_model.specs.Walks.{values_of};
 ghost use Rattle.patricia_nodes.specs.Internal.Plans.{IsWellFormed, siblings_of};
 ghost use Rattle.patricia_walks.specs.Internal.Holders.{holders};
-ghost use Rattle.patricia_walks.specs.Internal.ValuePositions.{IsValuePosition, GoesTo};
+ghost use Rattle.patricia_walks.specs.Internal.ValuePositions.{IsValuePosition};
 ghost use Rattle.patricia_walks.specs.Internal.ValueCursorStates.{spot_of, holders_left, Moves};
 ghost use Rattle.patricia_walks.specs.Internal.ValueCursorStates.{MoveIsRefused};
 
-use crate::held_tree::{HeldTree, ValueSlot, held_by};
+use crate::held_tree::{HeldTree, ValueSlot};
+use crate::value_front::ValueFront;
 use patricia_keys::Bytes;
-use patricia_nodes::link::{Link, NodeId};
 use patricia_nodes::parts::TreeParts;
 use std::alloc::AllocError;
 use std::marker::{Model, PhantomData};
@@ -26,12 +23,9 @@ use std::marker::{Model, PhantomData};
 #[derive(Drop)]
 struct ValueCursorState<V> {
     tree: HeldTree<V>,
-    // who holds the value that is due
+    // who holds the value of the empty key, while it is due
     pending: Option<ValueSlot>,
-    // the siblings that are next
-    next: Link,
-    // the siblings that wait
-    stack: Vec<Link>,
+    front: ValueFront,
 }
 
 impl<V> ValueCursorState<V> {
@@ -44,95 +38,15 @@ impl<V> ValueCursorState<V> {
         ensures left { holders_left result ≡ values_of (holders parts.value parts.arena) }
         ensures last { result.tree.last ≡ None }
     {
-        let stack = Vec::new(parts.alloc);
+        let alloc = parts.alloc;
         let tree = HeldTree { parts, last: None };
         let pending = tree.root_value_slot();
-        let next = tree.root();
+        let front = ValueFront::new(alloc, tree.root());
         ValueCursorState {
             tree,
             pending,
-            next,
-            stack,
+            front,
         }
-    }
-
-    // Advances to the node's value and its children, or its siblings where it has no children. Its
-    // siblings wait only where it has both.
-    fn descend(&mut self, id: NodeId) -> Result<(), AllocError>
-        requires position { IsValuePosition (spot_of self.old) }
-        requires taken { self.old.pending ≡ None }
-        requires next { self.old.next ≡ Some id }
-        ensures goes { OnOk result (GoesTo (spot_of self.old) (spot_of self.new)) }
-        ensures refused { OnErr result (spot_of self.new ≡ spot_of self.old) }
-        ensures tree { self.new.tree ≡ self.old.tree }
-    {
-        let nodes = &self.tree.parts.arena.nodes;
-        let child = nodes.child(id);
-        let sibling = nodes.sibling(id);
-        if child.get().is_none() {
-            self.pending = held_by(nodes, id);
-            self.next = sibling;
-            return Ok(());
-        }
-        if sibling.get().is_some() {
-            self.stack.push(sibling)?;
-        }
-        self.pending = held_by(nodes, id);
-        self.next = child;
-        Ok(())
-    }
-
-    // Goes back to the siblings that wait last, if any wait.
-    fn back(&mut self) -> bool
-        requires position { IsValuePosition (spot_of self.old) }
-        requires taken { self.old.pending ≡ None }
-        requires over { self.old.next ≡ None }
-        ensures step { IsTrue result → GoesTo (spot_of self.old) (spot_of self.new) }
-        ensures over { result ≡ false → holders_left self.old ≡ [] }
-        ensures stays { result ≡ false → spot_of self.new ≡ spot_of self.old }
-        ensures tree { self.new.tree ≡ self.old.tree }
-    {
-        let Some(siblings) = self.stack.pop() else {
-            return false;
-        };
-        self.next = siblings;
-        true
-    }
-
-    // Advances until a value is due. The answer is false where none is left.
-    fn seek(&mut self) -> Result<bool, AllocError>
-        requires { IsValuePosition (spot_of self.old) }
-        ensures position { IsValuePosition (spot_of self.new) }
-        ensures left { holders_left self.new ≡ holders_left self.old }
-        ensures found { IfOk result (λ found. IsTrue found → self.new.pending ≢ None) }
-        ensures over { IfOk result (λ found. found ≡ false → holders_left self.old ≡ []) }
-        ensures refused { OnErr result (holders_left self.old ≢ []) }
-        ensures tree { self.new.tree ≡ self.old.tree }
-    {
-        loop {
-            if self.pending.is_some() {
-                return Ok(true);
-            }
-            match self.next.get() {
-                Some(id) => self.descend(id)?,
-                None => {
-                    if !self.back() {
-                        return Ok(false);
-                    }
-                }
-            }
-        }
-    }
-
-    // Takes the value that is due for lent.
-    fn mark_lent(&mut self)
-        requires position { IsValuePosition (spot_of self.old) }
-        requires pending { self.old.pending ≢ None }
-        ensures position { IsValuePosition (spot_of self.new) }
-        ensures goes { Moves self.old true self.new }
-        ensures tree { self.new.tree.parts ≡ self.old.tree.parts }
-    {
-        self.tree.last = self.pending.take();
     }
 
     // Advances to the next value, and returns whether there is one.
@@ -143,10 +57,14 @@ impl<V> ValueCursorState<V> {
         ensures refused { OnErr result (MoveIsRefused self.old self.new) }
         ensures tree { self.new.tree.parts ≡ self.old.tree.parts }
     {
-        if !self.seek()? {
-            return Ok(false);
+        if let Some(holder) = self.pending.take() {
+            self.tree.last = Some(holder);
+            return Ok(true);
         }
-        self.mark_lent();
+        let Some(id) = self.front.next_node(&self.tree.parts.arena.nodes)? else {
+            return Ok(false);
+        };
+        self.tree.last = Some(ValueSlot::OfNode(id));
         Ok(true)
     }
 }

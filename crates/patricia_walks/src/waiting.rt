@@ -9,6 +9,7 @@ use std::alloc::AllocError;
 const ROOM: usize = 16;
 
 /// Lets siblings wait behind so many bytes of the path, where there are any.
+#[inline(always)]
 pub fn push_siblings(
     stack: &mut Vec<(usize, Link)>,
     front: usize,

@@ -1,6 +1,6 @@
 //! Walks over nodes in one vector, in key order.
-ghost use Rattle.std.specs.Prelude.{◌≡◌, ◌≢◌, ◌≤◌, ◌++◌, [], length, take, Some, None, false};
-ghost use Rattle.std.specs.Prelude.{IsTrue, IfOk, OnOk, OnErr};
+ghost use Rattle.std.specs.Prelude.{◌≡◌, ◌≢◌, ◌≤◌, ◌++◌, [], length, take, Some, None};
+ghost use Rattle.std.specs.Prelude.{IfOk, OnOk, OnErr};
 ghost use Rattle.std.specs.Iterator.{at_most};
 ghost use Rattle.std.specs.Option.{option_copied};
 ghost use Rattle.patricia_keys.specs.Keys.{IsValid};
@@ -16,30 +16,23 @@ ghost use Rattle.patricia_walks.specs.Internal.Fronts.{lent, state_at, IsFrontPo
 mod reading;
 mod skipping;
 
-use crate::waiting::push_siblings;
+use crate::progress::Progress;
 use patricia_keys::Bytes;
 use patricia_nodes::arena::NodeArena;
 use patricia_nodes::link::{Link, NodeId};
-use patricia_nodes::path::{ROOM, extend_path};
+use patricia_nodes::path::ROOM;
 pub use reading::ReadCursor;
 use std::alloc::{AllocError, Global};
 use std::iter::FusedIterator;
 use std::marker::{Model, PhantomData};
 
-// How far a walk has come.
+// How far a walk over nodes has come, and the nodes.
 #[derive(Drop)]
 struct Traversal<'a, V> {
     arena: &'a NodeArena<V>,
-    // the key of the last value
-    path: Vec<u8>,
-    // how many bytes of the path stand before the keys of the siblings that are next
-    front: usize,
+    progress: Progress,
     // the value at the path, while it is due
     pending: Option<&'a V>,
-    // the siblings that are next
-    next: Link,
-    // the siblings that wait, behind so many bytes of the path
-    stack: Vec<(usize, Link)>,
 }
 
 impl<'a, V> Traversal<'a, V> {
@@ -48,77 +41,44 @@ impl<'a, V> Traversal<'a, V> {
         ensures left { entries_left (state_at (lent self.new)) ≡ [] }
         ensures place { IsFrontPosition K.item (lent self.new) }
     {
-        self.path.clear();
-        self.front = 0;
+        self.progress.finish();
         self.pending = None;
-        self.next = Link::none();
-        self.stack.clear();
     }
 
-    // Advances to the node that is next, and returns its value. Its children are next then, and its
-    // siblings wait; or its siblings are next, where it has no children.
+    // Advances to the node that is next, and returns its value.
     fn descend<K: Bytes>(&mut self, id: NodeId) -> Result<Option<&'a V>, AllocError>
         requires place { IsFrontPosition K.item (lent self.old) }
         requires taken { (lent self.old).pending ≡ None }
-        requires next { self.old.next ≡ Some id }
+        requires next { self.old.progress.next ≡ Some id }
         ensures { IfOk result (λ value.
             Moves K.item (lent self.old) (option_copied value) (lent self.new)) }
     {
-        let nodes = &self.arena.nodes;
-        let label = nodes.label(id);
-        let child = nodes.child(id);
-        let sibling = nodes.sibling(id);
-        let value = nodes.value(id);
-        let front = self.front;
-        self.path.truncate(front);
-        extend_path(&mut self.path, label)?;
-        if child.get().is_none() {
-            self.next = sibling;
-            return Ok(value);
-        }
-        push_siblings(&mut self.stack, front, sibling)?;
-        self.front = self.path.len();
-        self.next = child;
+        // read first, so that it waits for memory together with the label
+        let value = self.arena.nodes.value(id);
+        self.progress.enter::<K, V>(&self.arena.nodes, id)?;
         Ok(value)
-    }
-
-    // Goes back to the siblings that wait last, if any wait. The path stays.
-    fn back<K: Bytes>(&mut self) -> bool
-        requires place { IsFrontPosition K.item (lent self.old) }
-        requires taken { (lent self.old).pending ≡ None }
-        requires over { self.old.next ≡ None }
-        ensures step { IsTrue result → Moves K.item (lent self.old) None (lent self.new) }
-        ensures over { result ≡ false → entries_left (state_at (lent self.old)) ≡ [] }
-        ensures stays { result ≡ false → lent self.new ≡ lent self.old }
-    {
-        let Some((front, siblings)) = self.stack.pop() else {
-            return false;
-        };
-        self.front = front;
-        self.next = siblings;
-        true
     }
 
     // Passes the entries that begin with the first bytes of the path, which are whole items.
     fn skip<K: Bytes>(&mut self, len: usize)
         requires place { IsFrontPosition K.item (lent self.old) }
-        requires within { len ≤ length self.old.path.items }
-        requires valid { IsValid K.item (take len self.old.path.items) }
+        requires within { len ≤ length self.old.progress.path.items }
+        requires valid { IsValid K.item (take len self.old.progress.path.items) }
         ensures place { IsFrontPosition K.item (lent self.new) }
-        ensures path { self.new.path.items ≡ self.old.path.items }
-        ensures passed { HasPassed (take len self.old.path.items)
+        ensures path { self.new.progress.path.items ≡ self.old.progress.path.items }
+        ensures passed { HasPassed (take len self.old.progress.path.items)
             (entries_left (state_at (lent self.old))) (entries_left (state_at (lent self.new))) }
     {
         self.pending = None;
-        if self.front < len && self.next.get().is_some() {
+        if self.progress.front < len && self.progress.next.get().is_some() {
             return;
         }
-        self.next = Link::none();
-        while let Some((front, _)) = self.stack.last() {
+        self.progress.next = Link::none();
+        while let Some((front, _)) = self.progress.stack.last() {
             if *front < len {
                 return;
             }
-            self.stack.pop();
+            self.progress.stack.pop();
         }
     }
 
@@ -134,14 +94,14 @@ impl<'a, V> Traversal<'a, V> {
             return Ok(Some(value));
         }
         loop {
-            match self.next.get() {
+            match self.progress.next.get() {
                 Some(id) => {
                     if let Some(value) = self.descend::<K>(id)? {
                         return Ok(Some(value));
                     }
                 }
                 None => {
-                    if !self.back::<K>() {
+                    if !self.progress.back() {
                         return Ok(None);
                     }
                 }
@@ -183,11 +143,8 @@ impl<'a, K: Bytes, V> Walk<'a, K, V> {
             alloc,
             place: Traversal {
                 arena,
-                path: Vec::new(alloc),
-                front: 0,
+                progress: Progress::new(alloc, arena.root),
                 pending,
-                next: arena.root,
-                stack: Vec::new(alloc),
             },
             kind: PhantomData,
         }
@@ -201,11 +158,8 @@ impl<'a, K: Bytes, V> Walk<'a, K, V> {
             alloc,
             place: Traversal {
                 arena,
-                path: Vec::new(alloc),
-                front: 0,
+                progress: Progress::new(alloc, Link::none()),
                 pending: None,
-                next: Link::none(),
-                stack: Vec::new(alloc),
             },
             kind: PhantomData,
         }
@@ -230,11 +184,13 @@ impl<'a, K: Bytes, V> Walk<'a, K, V> {
             alloc,
             place: Traversal {
                 arena,
-                front: path.len(),
-                path,
+                progress: Progress {
+                    front: path.len(),
+                    path,
+                    next: arena.nodes.child(top),
+                    stack: Vec::new(alloc),
+                },
                 pending: arena.nodes.value(top),
-                next: arena.nodes.child(top),
-                stack: Vec::new(alloc),
             },
             kind: PhantomData,
         })
@@ -260,7 +216,7 @@ impl<'a, K: Bytes, V> Iterator for Walk<'a, K, V> {
 
     fn next(&mut self) -> Option<Result<(K, &'a V), AllocError>> {
         match self.place.seek::<K>() {
-            Ok(Some(value)) => match K::from_bytes(self.alloc, &self.place.path) {
+            Ok(Some(value)) => match K::from_bytes(self.alloc, &self.place.progress.path) {
                 Ok(key) => Some(Ok((key, value))),
                 Err(error) => {
                     self.place.finish::<K>();

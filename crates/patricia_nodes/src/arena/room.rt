@@ -58,9 +58,9 @@ impl<V: Drop> NodeArena<V> {
         self.has_room(bytes) && !self.is_worn()
     }
 
-    // Lays the nodes depth first, where they are, and drops those that are free. Their labels are
-    // laid in the same order, where memory for that is there.
-    fn relocate(&mut self, alloc: Global) -> Result<(), AllocError>
+    // Lays the nodes depth first, where they are, and drops those that are free. Labels stay where
+    // they are.
+    fn relocate_nodes(&mut self, alloc: Global) -> Result<(), AllocError>
         requires { IsWellFormed self.old }
         ensures whole { IsWellFormed self.new }
         ensures siblings { siblings_of self.new ≡ siblings_of self.old }
@@ -76,6 +76,20 @@ impl<V: Drop> NodeArena<V> {
         self.nodes.rearrange(order, places, used, settled);
         self.nodes.keep_first(used);
         self.free = Link::none();
+        Ok(())
+    }
+
+    // The same, and lays their labels in the same order, where memory for that is there.
+    fn relocate(&mut self, alloc: Global) -> Result<(), AllocError>
+        requires { IsWellFormed self.old }
+        ensures whole { IsWellFormed self.new }
+        ensures siblings { siblings_of self.new ≡ siblings_of self.old }
+        ensures none_free { OnOk result (self.new.free ≡ None) }
+        ensures fewer { length self.new.nodes.items ≤ length self.old.nodes.items }
+        ensures room { KeepsRoomFor self.old self.new 2 }
+        ensures unchanged { OnErr result (self.new ≡ self.old) }
+    {
+        self.relocate_nodes(alloc)?;
         // a refusal leaves the labels where they are
         let _laid = self.nodes.lay_labels();
         Ok(())
@@ -157,5 +171,23 @@ impl<V: Drop> NodeArena<V> {
         if self.edits >= self.nodes.len() / 8 {
             self.try_relocate(alloc);
         }
+    }
+
+    /// Relocates the nodes for their order, and leaves their labels where they are: those of a tree
+    /// that was read lie in the order of its keys. Without memory for that the nodes stay where
+    /// they are, and it is no error.
+    pub fn settle_nodes(&mut self, alloc: Global)
+        requires whole { IsWellFormed self.old }
+        ensures whole { IsWellFormed self.new }
+        ensures siblings { siblings_of self.new ≡ siblings_of self.old }
+        ensures none_free { self.old.free ≡ None → self.new.free ≡ None }
+        ensures fewer { length self.new.nodes.items ≤ length self.old.nodes.items }
+        ensures room { KeepsRoomFor self.old self.new 2 }
+    {
+        if self.nodes.len() >= FEWEST_TO_RELOCATE {
+            // a refusal changes nothing
+            let _relocated = self.relocate_nodes(alloc);
+        }
+        self.edits = 0;
     }
 }

@@ -8,7 +8,7 @@ use Rattle.patricia_store.specs.Internal.Nodes.{Node}
 use Rattle.patricia_nodes.specs.declared.arena.NodeArena.{NodeArena}
 use Rattle.patricia_nodes.specs.Internal.Plans.{IsPlan, plan_at, count, siblings_at}
 use Rattle.patricia_walks.specs.Internal.HeldTrees.{AreEntriesLeft, IsHeld, Refuses, Takes}
-use Rattle.patricia_walks.specs.Internal.Positions.{Position, IsPosition, state_of}
+use Rattle.patricia_walks.specs.Internal.Fronts.{FrontPosition, IsFrontPosition, state_at}
 use Rattle.patricia_nodes.specs.Internal.Places.{entries_below}
 use Rattle.patricia_walks.specs.declared.held_tree.ValueSlot.{ValueSlot}
 use Rattle.patricia_walks.specs.declared.cursor_state.CursorState.{CursorState}
@@ -17,18 +17,19 @@ use Rattle.patricia_walks.specs.Internal.Holders.{numbered_slots, holders}
 
 module _ {V : Type 0} where
   -- its place in the walk over the holders
-  abbrev pub position_of : CursorState V → Position ValueSlot
+  abbrev pub position_of : CursorState V → FrontPosition ValueSlot
   position_of t = record {
     nodes = numbered_slots 0 t.tree.parts.arena.nodes.items;
-    path = t.path.items;
+    path = t.progress.path.items;
+    front = t.progress.front;
     pending = t.pending;
-    next = t.next;
-    stack = t.stack.items;
+    next = t.progress.next;
+    stack = t.progress.stack.items;
   }
 
   -- the keys that are left, with who holds their values
   abbrev pub left_of : CursorState V → List (List ℕ × ValueSlot)
-  left_of t = entries_left (state_of (position_of t))
+  left_of t = entries_left (state_at (position_of t))
 
   -- it advanced to the first key that was left, or there was none
   abbrev pub Advances : CursorState V → Option (List ℕ) → CursorState V → Type 0
@@ -60,7 +61,7 @@ module _ (item : List ℕ → Type 0) {V : Type 0} where
   -- the walk has left what the cursor has still to lend
   pub record IsCursorState (t : CursorState V) (prefix : List ℕ) : Type 0 where
     pub held : IsHeld item t.tree
-    pub position : IsPosition item (position_of t)
+    pub position : IsFrontPosition item (position_of t)
     pub left_is : AreEntriesLeft t.tree prefix (left_of t)
 
   -- the walk has not begun, and what is left is below this node, behind these bytes of the prefix
@@ -68,7 +69,7 @@ module _ (item : List ℕ → Type 0) {V : Type 0} where
     pub held : IsHeld item t.tree
     pub none : t.tree.last ≡ None
     pub within : front ≤ length prefix
-    pub stack : t.stack.items ≡ []
+    pub stack : t.progress.stack.items ≡ []
     pub start :
         IsAtStart item (numbered_slots 0 t.tree.parts.arena.nodes.items) (take front prefix) top
     pub left_is :

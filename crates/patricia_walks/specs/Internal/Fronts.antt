@@ -2,12 +2,13 @@
 --
 -- The path stays that of the last value. While the siblings that are next stand behind fewer bytes,
 -- they are seen as the last of those that wait.
-use Rattle.std.specs.Prelude.{◌≡◌, ℕ, ◌+◌, ◌*◌, ◌<◌, ◌≤◌, List, ◌++◌, Option, None, length}
-use Rattle.std.specs.Prelude.{nat_lt, if◌then◌else◌}
+use Rattle.std.specs.Prelude.{◌≡◌, ◌≢◌, ℕ, ◌+◌, ◌*◌, ◌<◌, ◌≤◌, List, ◌++◌, Option, None, length}
+use Rattle.std.specs.Prelude.{nat_lt, take, if◌then◌else◌}
 use Rattle.std.specs.Option.{option_copied}
 use Rattle.patricia_model.specs.Siblings.{prefixed, own}
 use Rattle.patricia_model.specs.Internal.WalkStates.{WalkState, entries_left, steps_left}
 use Rattle.patricia_store.specs.Internal.Nodes.{Node}
+use Rattle.patricia_walks.specs.declared.progress.Progress.{Progress}
 use Rattle.patricia_walks.specs.declared.walk.Traversal.{Traversal}
 use Rattle.patricia_walks.specs.declared.into_walk.OwnedTraversal.{OwnedTraversal}
 use Rattle.patricia_walks.specs.Internal.Positions.{Position, IsPosition, state_of, with_siblings}
@@ -23,6 +24,13 @@ pub record FrontPosition (V : Type 0) : Type 0 where
   pub next : Option ℕ
   pub stack : List (ℕ × Option ℕ)
 
+-- the path is cut to the bytes before the siblings that are next, and the walk stays there
+pub record IsCut (p q : Progress) : Type 0 where
+  pub path : q.path.items ≡ take p.front p.path.items
+  pub front : q.front ≡ p.front
+  pub next : q.next ≡ p.next
+  pub stack : q.stack.items ≡ p.stack.items
+
 -- the siblings that are next behind all bytes of the path
 abbrev pub next_in : ℕ → List ℕ → Option ℕ → Option ℕ
 next_in front path next = if nat_lt front (length path) then None else next
@@ -37,23 +45,32 @@ module _ {V : Type 0} where
   abbrev pub lent : Traversal V → FrontPosition V
   lent p = record {
     nodes = p.arena.now.nodes.items;
-    path = p.path.items;
-    front = p.front;
+    path = p.progress.path.items;
+    front = p.progress.front;
     pending = option_copied p.pending;
-    next = p.next;
-    stack = p.stack.items;
+    next = p.progress.next;
+    stack = p.progress.stack.items;
   }
 
   -- and of a walk that owns the nodes
   abbrev pub owned : OwnedTraversal V → FrontPosition V
   owned p = record {
     nodes = p.arena.nodes.items;
-    path = p.path.items;
-    front = p.front;
+    path = p.progress.path.items;
+    front = p.progress.front;
     pending = p.pending;
-    next = p.next;
-    stack = p.stack.items;
+    next = p.progress.next;
+    stack = p.progress.stack.items;
   }
+
+  -- a walk enters a node: its label stands behind the first bytes of the path, and its children are
+  -- next then, or its siblings, where it has no children
+  pub record Enters (n : Node V) (p q : Progress) : Type 0 where
+    pub path : q.path.items ≡ take p.front p.path.items ++ n.label
+    pub beside : n.child ≡ None
+        → (q.front ≡ p.front) × (q.next ≡ n.sibling) × (q.stack.items ≡ p.stack.items)
+    pub below : n.child ≢ None → (q.front ≡ length q.path.items) × (q.next ≡ n.child)
+        × (q.stack.items ≡ with_siblings p.stack.items p.front n.sibling)
 
   -- the position where it is seen
   abbrev pub seen : FrontPosition V → Position V

@@ -1,26 +1,21 @@
 -- How far a cursor over values has come over a tree.
-use Rattle.std.specs.Prelude.{◌≡◌, ◌≢◌, ℕ, Bool, true, false, List, [], ◌∷◌, Some}
+use Rattle.std.specs.Prelude.{◌≡◌, ◌≢◌, ℕ, Bool, true, false, List, [], ◌∷◌, ◌++◌, Some}
+use Rattle.patricia_model.specs.Siblings.{own}
 use Rattle.patricia_model.specs.Walks.{values_of}
 use Rattle.patricia_walks.specs.Internal.HeldTrees.{entries_to_lend, IsHeld}
-use Rattle.patricia_walks.specs.Internal.Holders.{numbered_slots}
 use Rattle.patricia_walks.specs.Internal.ValuePositions.{ValuePosition, IsValuePosition}
-use Rattle.patricia_walks.specs.Internal.ValuePositions.{values_left}
+use Rattle.patricia_walks.specs.Internal.ValuePositions.{place_of, values_left}
 use Rattle.patricia_walks.specs.declared.held_tree.ValueSlot.{ValueSlot}
 use Rattle.patricia_walks.specs.declared.value_cursor.ValueCursorState.{ValueCursorState}
 
 module _ {V : Type 0} where
   -- its place in the walk over the holders
   abbrev pub spot_of : ValueCursorState V → ValuePosition ValueSlot
-  spot_of t = record {
-    nodes = numbered_slots 0 t.tree.parts.arena.nodes.items;
-    pending = t.pending;
-    next = t.next;
-    stack = t.stack.items;
-  }
+  spot_of t = place_of t.tree.parts.arena.nodes.items t.front
 
   -- who holds the values that are left
   abbrev pub holders_left : ValueCursorState V → List ValueSlot
-  holders_left t = values_left (spot_of t)
+  holders_left t = values_of (own t.pending) ++ values_left (spot_of t)
 
   -- it advanced to the first value that was left, or there was none
   abbrev pub Moves : ValueCursorState V → Bool → ValueCursorState V → Type 0

@@ -1,31 +1,22 @@
 -- How far a walk over the values of nodes in one vector has come.
 use Rattle.std.specs.Prelude.{◌≡◌, ◌≢◌, ℕ, ◌+◌, ◌<◌, List, [], ◌∷◌, ◌++◌, Option, Some, None}
-use Rattle.std.specs.Option.{option_copied}
 use Rattle.patricia_model.specs.Siblings.{Siblings, end, node, own, entries}
 use Rattle.patricia_model.specs.Walks.{values_of}
 use Rattle.patricia_model.specs.Internal.WalkStates.{steps_in}
 use Rattle.patricia_store.specs.Internal.Nodes.{Node}
 use Rattle.patricia_nodes.specs.Internal.Plans.{plan_at, IsPlan, siblings_at}
-use Rattle.patricia_walks.specs.declared.value_walk.ValueTraversal.{ValueTraversal}
+use Rattle.patricia_walks.specs.declared.held_tree.ValueSlot.{ValueSlot}
+use Rattle.patricia_walks.specs.declared.value_front.ValueFront.{ValueFront}
+use Rattle.patricia_walks.specs.Internal.Holders.{numbered_slots, held}
 
--- a place in a walk over values: the nodes, the value that is due, the number of the siblings that
--- are next, and those of the siblings that wait, the next one last
+-- a place in a walk over values: the nodes, the number of the siblings that are next, and those of
+-- the siblings that wait, the next one last
 pub record ValuePosition (V : Type 0) : Type 0 where
   pub nodes : List (Node V)
-  pub pending : Option V
   pub next : Option ℕ
   pub stack : List (Option ℕ)
 
 module _ {V : Type 0} where
-  -- the place of a walk
-  abbrev pub place_of : ValueTraversal V → ValuePosition V
-  place_of p = record {
-    nodes = p.arena.now.nodes.items;
-    pending = option_copied p.pending;
-    next = p.next;
-    stack = p.stack.items;
-  }
-
   -- the values of siblings
   abbrev pub values_in : Siblings V → List V
   values_in siblings = values_of (entries siblings)
@@ -37,9 +28,7 @@ module _ {V : Type 0} where
 
   -- the values that are left
   abbrev pub values_left : ValuePosition V → List V
-  values_left p =
-      values_of (own p.pending)
-      ++ (values_in (siblings_at p.nodes p.next) ++ values_waiting p.nodes p.stack)
+  values_left p = values_in (siblings_at p.nodes p.next) ++ values_waiting p.nodes p.stack
 
   -- the next value was taken, or there was none
   abbrev pub TakesValue : ValuePosition V → Option V → ValuePosition V → Type 0
@@ -77,8 +66,41 @@ module _ {V : Type 0} where
     pub next_siblings : AreValueSiblings p.nodes p.next
     pub siblings : AllValueSiblings p.nodes p.stack
 
-  -- a step of the walk: what is left stays, and fewer steps are left
-  pub record GoesTo (p q : ValuePosition V) : Type 0 where
+  -- a step of the walk: it passes this value, if any, and fewer steps are left
+  pub record Passes (p : ValuePosition V) (value : Option V) (q : ValuePosition V) : Type 0 where
     pub position : IsValuePosition q
-    pub same : values_left q ≡ values_left p
+    pub left : values_left p ≡ values_of (own value) ++ values_left q
     pub less : value_steps_left q < value_steps_left p
+
+  -- it was refused, though a value was left
+  pub record IsRefused (p q : ValuePosition V) : Type 0 where
+    pub left : values_left q ≡ values_left p
+    pub some : values_left p ≢ []
+
+module _ {V : Type 0} where
+  -- the place of a walk over the holders of the values
+  abbrev pub place_of : List (Node V) → ValueFront → ValuePosition ValueSlot
+  place_of nodes f = record {
+    nodes = numbered_slots 0 nodes;
+    next = f.next;
+    stack = f.stack.items;
+  }
+
+  -- the values that nodes hold
+  abbrev pub values_held : List (Node V) → List ValueSlot → List V
+  values_held nodes [] = []
+  values_held nodes (h ∷ hs) = values_of (own (held None nodes h)) ++ values_held nodes hs
+
+  -- each of these holds a value
+  abbrev pub AllHold : List (Node V) → List ValueSlot → Type 0
+  AllHold nodes [] = Unit {0}
+  AllHold nodes (h ∷ hs) = (held None nodes h ≢ None) × AllHold nodes hs
+
+  -- the values that a walk has left
+  abbrev pub values_ahead : List (Node V) → ValueFront → List V
+  values_ahead nodes f = values_held nodes (values_left (place_of nodes f))
+
+  -- it is one over these nodes
+  pub record IsFrontOf (nodes : List (Node V)) (f : ValueFront) : Type 0 where
+    pub position : IsValuePosition (place_of nodes f)
+    pub hold : AllHold nodes (values_left (place_of nodes f))

@@ -33,7 +33,7 @@ impl<'a, K: Bytes, V> Model for ReadCursor<'a, K, V> {
     ghost coded = { read_cursor_view_code V.code };
 
     ghost view = { λ c. record {
-      at = option_map (λ v. (c.place.path.items, v.now)) c.value;
+      at = option_map (λ v. (c.place.progress.path.items, v.now)) c.value;
       left = entries_left (state_at (lent c.place));
     } };
 
@@ -124,7 +124,7 @@ impl<'a, K: Bytes, V> ReadCursor<'a, K, V> {
         if self.value.is_none() {
             return;
         }
-        let path = self.place.path.as_slice();
+        let path = self.place.progress.path.as_slice();
         let whole = K::floor_boundary(&path[..len.min(path.len())]);
         self.place.skip::<K>(whole);
     }
@@ -169,7 +169,7 @@ impl<'a, K: Bytes, V> ReadCursor<'a, K, V> {
         ensures valid { IfSome result (λ k. IsValid K.item k.now) }
     {
         match self.value {
-            Some(_) => Some(self.place.path.as_slice()),
+            Some(_) => Some(self.place.progress.path.as_slice()),
             None => None,
         }
     }

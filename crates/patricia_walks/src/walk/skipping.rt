@@ -11,11 +11,12 @@ ghost use Rattle.patricia_walks.specs.Internal.Skips.{IsTowards, Passes, Approac
 ghost use Rattle.patricia_walks.specs.Internal.Skips.{HasReached};
 
 use super::{Traversal, Walk};
+use crate::progress::Progress;
 use crate::waiting::push_siblings;
 use patricia_keys::Bytes;
 use patricia_nodes::arena::NodeArena;
 use patricia_nodes::link::{Link, NodeId};
-use patricia_nodes::path::extend_path;
+use patricia_nodes::path::extend_by_label;
 use std::alloc::{AllocError, Global};
 use std::cmp::Ordering;
 use std::marker::PhantomData;
@@ -25,18 +26,18 @@ impl<'a, V> Traversal<'a, V> {
     // than what is left of the key, by their heads alone.
     fn pass_run<K: Bytes>(&mut self, first: NodeId, key: &[u8]) -> NodeId
         requires towards { IsTowards K.item key.now (seen (lent self.old)) }
-        requires front { self.old.front ≡ length self.old.path.items }
+        requires front { self.old.progress.front ≡ length self.old.progress.path.items }
         requires taken { (lent self.old).pending ≡ None }
-        requires short { length self.old.path.items < length key.now }
-        requires next { self.old.next ≡ Some first }
+        requires short { length self.old.progress.path.items < length key.now }
+        requires next { self.old.progress.next ≡ Some first }
         ensures passes { Passes K.item key.now (seen (lent self.old)) (seen (lent self.new)) }
-        ensures front { self.new.front ≡ length self.new.path.items }
+        ensures front { self.new.progress.front ≡ length self.new.progress.path.items }
         ensures taken { (lent self.new).pending ≡ None }
-        ensures next { self.new.next ≡ Some result }
+        ensures next { self.new.progress.next ≡ Some result }
     {
-        let byte = key[self.path.len()];
+        let byte = key[self.progress.path.len()];
         let id = self.arena.nodes.run(first, byte);
-        self.next = Link::some(id);
+        self.progress.next = Link::some(id);
         id
     }
 
@@ -45,10 +46,11 @@ impl<'a, V> Traversal<'a, V> {
     // and the walk stays.
     fn approach<K: Bytes>(&mut self, id: NodeId, key: &[u8]) -> Result<bool, AllocError>
         requires towards { IsTowards K.item key.now (seen (lent self.old)) }
-        requires front { self.old.front ≡ length self.old.path.items }
+        requires front { self.old.progress.front ≡ length self.old.progress.path.items }
         requires taken { (lent self.old).pending ≡ None }
-        requires next { self.old.next ≡ Some id }
-        ensures front { OnOk result (self.new.front ≡ length self.new.path.items) }
+        requires next { self.old.progress.next ≡ Some id }
+        ensures front { OnOk result
+            (self.new.progress.front ≡ length self.new.progress.path.items) }
         ensures step { IfOk result (λ moved. moved ≡ true
             → Approaches K.item key.now (seen (lent self.old)) (seen (lent self.new))) }
         ensures over { IfOk result (λ moved. moved ≡ false
@@ -57,38 +59,38 @@ impl<'a, V> Traversal<'a, V> {
     {
         let nodes = &self.arena.nodes;
         let label = nodes.label(id);
-        let front = self.path.len();
+        let front = self.progress.path.len();
         let rest = &key[front..];
         if rest.starts_with(label) {
-            push_siblings(&mut self.stack, front, nodes.sibling(id))?;
-            extend_path(&mut self.path, label)?;
-            self.front = self.path.len();
+            push_siblings(&mut self.progress.stack, front, nodes.sibling(id))?;
+            extend_by_label::<K, V>(&mut self.progress.path, nodes, id)?;
+            self.progress.front = self.progress.path.len();
             self.pending = nodes.value(id);
-            self.next = nodes.child(id);
+            self.progress.next = nodes.child(id);
             return Ok(true);
         }
         if rest.cmp(label) == Ordering::Less {
             return Ok(false);
         }
-        self.next = nodes.sibling(id);
+        self.progress.next = nodes.sibling(id);
         Ok(true)
     }
 
     // Goes from the start of a walk to the first entry that does not come before the key.
     fn skip_to<K: Bytes>(&mut self, key: &[u8]) -> Result<(), AllocError>
         requires place { IsFrontPosition K.item (lent self.old) }
-        requires path { self.old.path.items ≡ [] }
-        requires stack { self.old.stack.items ≡ [] }
+        requires path { self.old.progress.path.items ≡ [] }
+        requires stack { self.old.progress.stack.items ≡ [] }
         ensures place { OnOk result (IsFrontPosition K.item (lent self.new)) }
         ensures left { OnOk result (entries_left (state_at (lent self.new))
             ≡ from key.now (entries_left (state_at (lent self.old)))) }
     {
         loop {
-            if self.path.len() >= key.len() {
+            if self.progress.path.len() >= key.len() {
                 return Ok(());
             }
             self.pending = None;
-            let Some(first) = self.next.get() else {
+            let Some(first) = self.progress.next.get() else {
                 return Ok(());
             };
             let id = self.pass_run::<K>(first, key);
@@ -116,11 +118,8 @@ impl<'a, K: Bytes, V> Walk<'a, K, V> {
     {
         let mut place = Traversal {
             arena,
-            path: Vec::new(alloc),
-            front: 0,
+            progress: Progress::new(alloc, arena.root),
             pending,
-            next: arena.root,
-            stack: Vec::new(alloc),
         };
         place.skip_to::<K>(key)?;
         Ok(Walk {

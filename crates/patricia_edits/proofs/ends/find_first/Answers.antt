@@ -36,7 +36,7 @@ returns-then-is_some-clause-place g c =
     let w = c.loop-child.invariant in
     let there = node_there c.args.arena.now.nodes.items c.loop-child.at.id
     (come_within g.met.K.Bytes.lawful c.requires.whole c.requires.siblings w) in
-    let path = c.in_ok-extend_by_label.ensures _ there.1 in
+    let path = c.in_ok-extend_by_label.ensures.label _ there.1 in
     let some = some_of there.0.value (sym (lent_some c.value.result there.0.value
     (c.value.ensures _ there.1)) ∙ sym c.is_some.ensures ∙ c.if-is_some.true) in
     subst (λ p. IsPlaceOf g.K.Bytes.item c.args.arena.now p c.loop-child.at.link_ref
@@ -48,7 +48,7 @@ returns-then-is_some-clause-valid g c =
     let w = c.loop-child.invariant in
     let there = node_there c.args.arena.now.nodes.items c.loop-child.at.id
     (come_within g.met.K.Bytes.lawful c.requires.whole c.requires.siblings w) in
-    let path = c.in_ok-extend_by_label.ensures _ there.1 in
+    let path = c.in_ok-extend_by_label.ensures.label _ there.1 in
     subst (IsValid g.K.Bytes.item) (sym path)
     (come_valid g.met.K.Bytes.lawful c.requires.whole c.requires.siblings w there.1)
 
@@ -57,7 +57,7 @@ returns-then-is_some-clause-first g c =
     let w = c.loop-child.invariant in
     let there = node_there c.args.arena.now.nodes.items c.loop-child.at.id
     (come_within g.met.K.Bytes.lawful c.requires.whole c.requires.siblings w) in
-    let path = c.in_ok-extend_by_label.ensures _ there.1 in
+    let path = c.in_ok-extend_by_label.ensures.label _ there.1 in
     let some = some_of there.0.value (sym (lent_some c.value.result there.0.value
     (c.value.ensures _ there.1)) ∙ sym c.is_some.ensures ∙ c.if-is_some.true) in
     subst (IsFirstKey (entries_of c.args.arena.now)) (sym path)
@@ -77,7 +77,7 @@ loop-child-preserved g c =
     let w = c.loop-child.invariant in
     let there = node_there c.args.arena.now.nodes.items c.loop-child.at.id
     (come_within g.met.K.Bytes.lawful c.requires.whole c.requires.siblings w) in
-    let path = c.in_ok-extend_by_label.ensures _ there.1 in
+    let path = c.in_ok-extend_by_label.ensures.label _ there.1 in
     let none = not_some there.0.value (sym c.if-is_some.false ∙ c.is_some.ensures
     ∙ lent_some c.value.result there.0.value (c.value.ensures _ there.1)) in
     comes_down g.met.K.Bytes.lawful c.requires.whole c.requires.siblings w there.1 c.in-Some.child

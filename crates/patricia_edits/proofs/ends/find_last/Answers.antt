@@ -80,7 +80,7 @@ loop-next-preserved g c =
     c.loop-next.invariant _ c.run-id.result c.run-id.ensures.run in
     let there = node_there c.args.arena.now.nodes.items c.run-id.result
     (come_within g.met.K.Bytes.lawful c.requires.whole c.requires.siblings w) in
-    let path = c.in_ok-extend_by_label.ensures _ there.1 in
+    let path = c.in_ok-extend_by_label.ensures.label _ there.1 in
     let alone = sym (c.sibling.ensures.node _ there.1) ∙ sym c.get.ensures ∙ c.in_default.is in
     comes_down g.met.K.Bytes.lawful c.requires.whole c.requires.siblings w there.1
     c.in-Some-get.child
@@ -96,7 +96,7 @@ returns-in-None-clause-place g c =
     c.loop-next.invariant _ c.run-id.result c.run-id.ensures.run in
     let there = node_there c.args.arena.now.nodes.items c.run-id.result
     (come_within g.met.K.Bytes.lawful c.requires.whole c.requires.siblings w) in
-    let path = c.in_ok-extend_by_label.ensures _ there.1 in
+    let path = c.in_ok-extend_by_label.ensures.label _ there.1 in
     let leaf = sym (c.child.ensures.node _ there.1) ∙ sym c.get-in-loop-next.ensures
     ∙ c.in-None.is in
     let some = leaf_valued g.met.K.Bytes.lawful c.requires.whole c.requires.siblings w there.1
@@ -110,7 +110,7 @@ returns-in-None-clause-valid g c =
     c.loop-next.invariant _ c.run-id.result c.run-id.ensures.run in
     let there = node_there c.args.arena.now.nodes.items c.run-id.result
     (come_within g.met.K.Bytes.lawful c.requires.whole c.requires.siblings w) in
-    let path = c.in_ok-extend_by_label.ensures _ there.1 in
+    let path = c.in_ok-extend_by_label.ensures.label _ there.1 in
     subst (IsValid g.K.Bytes.item) (sym path)
     (come_valid g.met.K.Bytes.lawful c.requires.whole c.requires.siblings w there.1)
 
@@ -120,7 +120,7 @@ returns-in-None-clause-last g c =
     c.loop-next.invariant _ c.run-id.result c.run-id.ensures.run in
     let there = node_there c.args.arena.now.nodes.items c.run-id.result
     (come_within g.met.K.Bytes.lawful c.requires.whole c.requires.siblings w) in
-    let path = c.in_ok-extend_by_label.ensures _ there.1 in
+    let path = c.in_ok-extend_by_label.ensures.label _ there.1 in
     let alone = sym (c.sibling.ensures.node _ there.1) ∙ sym c.get.ensures ∙ c.in_default.is in
     let leaf = sym (c.child.ensures.node _ there.1) ∙ sym c.get-in-loop-next.ensures
     ∙ c.in-None.is in

@@ -39,7 +39,7 @@ loop-value-smaller g c =
 pub loop-value-preserved : goal.loop-value-preserved
 loop-value-preserved g c =
     let there = node_there _ _ (siblings_within g.K.Bytes.item _ c.loop-value.id c.loop-value.invariant.siblings) in
-    let path = c.in_ok-extend_by_label.ensures _ there.1 in
+    let path = c.in_ok-extend_by_label.ensures.label _ there.1 in
     let opens = siblings_open g.K.Bytes.item c.args.arena.now.nodes.items (Some c.loop-value.id) c.loop-value.id there.0 c.loop-value.invariant.siblings refl there.1 in
     let nodes = c.args.arena.now.nodes.items in
     let is = (sym (c.child.ensures.node _ there.1) ∙ sym c.get.ensures ∙ c.in-Some-get.is) in
@@ -55,7 +55,7 @@ loop-value-preserved g c =
 pub returns-in-Some-clause-first : goal.returns-in-Some-clause-first
 returns-in-Some-clause-first g c =
     let there = node_there _ _ (siblings_within g.K.Bytes.item _ c.loop-value.id c.loop-value.invariant.siblings) in
-    let path = c.in_ok-extend_by_label.ensures _ there.1 in
+    let path = c.in_ok-extend_by_label.ensures.label _ there.1 in
     sym c.loop-value.invariant.same
     ∙ first_value g.K.Bytes.item g.met.K.Bytes.lawful c.args.arena.now.nodes.items c.loop-value.id
     there.0 c.loop-value.invariant.siblings there.1
@@ -65,7 +65,7 @@ returns-in-Some-clause-first g c =
 pub returns-in-Some-clause-valid : goal.returns-in-Some-clause-valid
 returns-in-Some-clause-valid g c =
     let there = node_there _ _ (siblings_within g.K.Bytes.item _ c.loop-value.id c.loop-value.invariant.siblings) in
-    let path = c.in_ok-extend_by_label.ensures _ there.1 in
+    let path = c.in_ok-extend_by_label.ensures.label _ there.1 in
     let opens = siblings_open g.K.Bytes.item c.args.arena.now.nodes.items (Some c.loop-value.id) c.loop-value.id there.0 c.loop-value.invariant.siblings refl there.1 in
     subst (IsValid g.K.Bytes.item) (sym path) (IsValid-append g.K.Bytes.item c.loop-value.path.items there.0.label c.loop-value.invariant.valid opens.canonical.valid)
 

@@ -50,7 +50,7 @@ loop-child-preserved g c =
     let nodes = c.args.arena.now.nodes.items in
     let n = there.0 in
     let siblings = c.loop-child.invariant.siblings in
-    let path = c.in_ok-extend_by_label.ensures _ there.1 in
+    let path = c.in_ok-extend_by_label.ensures.label _ there.1 in
     let opens = siblings_open g.K.Bytes.item nodes (Some c.loop-child.id) c.loop-child.id n siblings refl there.1 in
     record {
       siblings = c.last_sibling-id.ensures.siblings;
@@ -64,7 +64,7 @@ loop-child-preserved g c =
 pub returns-in-Some-value-clause-last : goal.returns-in-Some-value-clause-last
 returns-in-Some-value-clause-last g c =
     let there = node_there _ _ (siblings_within g.K.Bytes.item _ c.loop-child.id c.loop-child.invariant.siblings) in
-    let path = c.in_ok-extend_by_label.ensures _ there.1 in
+    let path = c.in_ok-extend_by_label.ensures.label _ there.1 in
     sym c.loop-child.invariant.same
     ∙ last_value g.K.Bytes.item g.met.K.Bytes.lawful c.args.arena.now.nodes.items c.loop-child.id
     there.0 c.loop-child.invariant.siblings there.1 c.loop-child.path.items _
@@ -75,7 +75,7 @@ returns-in-Some-value-clause-last g c =
 pub returns-in-Some-value-clause-valid : goal.returns-in-Some-value-clause-valid
 returns-in-Some-value-clause-valid g c =
     let there = node_there _ _ (siblings_within g.K.Bytes.item _ c.loop-child.id c.loop-child.invariant.siblings) in
-    let path = c.in_ok-extend_by_label.ensures _ there.1 in
+    let path = c.in_ok-extend_by_label.ensures.label _ there.1 in
     let opens = siblings_open g.K.Bytes.item c.args.arena.now.nodes.items (Some c.loop-child.id) c.loop-child.id there.0 c.loop-child.invariant.siblings refl there.1 in
     subst (IsValid g.K.Bytes.item) (sym path) (IsValid-append g.K.Bytes.item c.loop-child.path.items there.0.label c.loop-child.invariant.valid opens.canonical.valid)
 

@@ -1,36 +1,18 @@
-use Rattle.std.proofs.Common.{refl, sym, ap, length, ◌∙◌}
-use Rattle.patricia_model.proofs.WalkLemmas.{left_start}
-use Rattle.patricia_nodes.specs.Internal.Plans.{siblings_of}
+use Rattle.std.proofs.Common.{refl}
 use Rattle.patricia_walks.specs.Internal.Fronts.{owned}
-use Rattle.patricia_walks.specs.Internal.Positions.{siblings_waiting}
-use Rattle.patricia_walks.specs.Internal.Skips.{entries_ahead}
-use Rattle.patricia_walks.proofs.FrontLemmas.{front_at_end, seen_at_end}
-use Rattle.patricia_walks.proofs.PositionLemmas.{position_start}
+use Rattle.patricia_walks.proofs.FrontLemmas.{front_start, left_front}
 use Rattle.patricia_walks.proofs.into_walk.IntoWalk.new.Goals as goal
 
 pub invariant_of-result : goal.invariant_of-result
 invariant_of-result g c =
-    front_at_end g.K.Bytes.item _ (sym (ap length c.new.ensures.items))
-    (position_start g.K.Bytes.item c.args.arena _ c.requires.whole c.requires.siblings refl c.new.ensures.items refl c.new-2.ensures.items)
+    front_start g.K.Bytes.item c.args.arena
+    (owned (record { arena = c.args.arena; progress = c.new-progress.result; pending = c.args.pending }))
+    c.requires.whole c.requires.siblings refl c.new-progress.ensures.path c.new-progress.ensures.front
+    c.new-progress.ensures.next c.new-progress.ensures.stack
 
 pub returns : goal.returns
 returns g c =
-    ap entries_ahead
-    (seen_at_end
-    (owned (record {
-      arena = c.args.arena;
-      path = c.new.result;
-      front = 0;
-      pending = c.args.pending;
-      next = c.args.arena.root;
-      stack = c.new-2.result;
-    })) (sym (ap length c.new.ensures.items)))
-    ∙ left_start
-    (record {
-      path = c.new.result.items;
-      pending = c.args.pending;
-      siblings = siblings_of
-          c.args.arena;
-      stack = siblings_waiting c.args.arena.nodes.items c.new-2.result.items;
-    }) c.new.ensures.items
-    (ap (siblings_waiting c.args.arena.nodes.items) c.new-2.ensures.items)
+    left_front c.args.arena
+    (owned (record { arena = c.args.arena; progress = c.new-progress.result; pending = c.args.pending }))
+    refl c.new-progress.ensures.path c.new-progress.ensures.front c.new-progress.ensures.next
+    c.new-progress.ensures.stack

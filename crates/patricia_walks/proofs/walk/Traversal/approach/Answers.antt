@@ -4,7 +4,7 @@ use Rattle.patricia_walks.specs.Internal.Fronts.{FrontPosition, lent, seen}
 use Rattle.patricia_walks.specs.Internal.Skips.{IsTowards, Approaches, HasReached}
 use Rattle.patricia_walks.proofs.AlongLemmas.{rest_is, less_is, not_less}
 use Rattle.patricia_walks.proofs.FrontLemmas.{plain, seen_at_end}
-use Rattle.patricia_walks.proofs.PositionLemmas.{position_within}
+use Rattle.patricia_walks.proofs.PositionLemmas.{position_within, position_label}
 use Rattle.patricia_walks.proofs.SkipLemmas.{towards_down, towards_past, reached_label, turned_less}
 use Rattle.patricia_walks.proofs.SkipLemmas.{begun_itself}
 use Rattle.patricia_walks.proofs.walk.Traversal.approach.Goals as goal
@@ -22,18 +22,27 @@ towards : (item : List ℕ → Type 0) (key : List ℕ) {V : Type 0} (p : FrontP
     → p.front ≡ length p.path → IsTowards item key (seen p) → IsTowards item key (plain p)
 towards item key p front w = subst (IsTowards item key) (seen_at_end p front) w
 
+pub extend_by_label-requires : goal.extend_by_label-requires
+extend_by_label-requires g c =
+    let p = lent c.args.self.now in
+    let w = towards g.K.Bytes.item c.args.key.now p c.requires.front c.requires.towards in
+    record {
+      within = position_within g.K.Bytes.item (plain p) _ w.position c.requires.next;
+      valid = λ n reads. position_label g.K.Bytes.item (plain p) _ n w.position c.requires.next reads;
+    }
+
 pub returns-then-starts_with-clause-step : goal.returns-then-starts_with-clause-step
 returns-then-starts_with-clause-step g c =
     let p = lent c.args.self.now in
     let w = towards g.K.Bytes.item c.args.key.now p c.requires.front c.requires.towards in
     let there = node_there _ _ (position_within g.K.Bytes.item (plain p) _ w.position c.requires.next) in
-    let begun = rw (c.len-front.ensures, c.args.self.now.path.ok.0, rest_is) at c.starts_with.ensures.value in
+    let begun = rw (c.len-front.ensures, c.args.self.now.progress.path.ok.0, rest_is) at c.starts_with.ensures.value in
     let yes = rw (c.label-label.ensures _ there.1) at begun in
-    λ _. approaches g.K.Bytes.item c.args.key.now p _ c.requires.front (c.len-self.ensures ∙ c.extend_path.new.path.ok.0)
+    λ _. approaches g.K.Bytes.item c.args.key.now p _ c.requires.front (c.len-self.ensures ∙ c.extend_by_label.new.path.ok.0)
     (towards_down g.K.Bytes.item g.met.K.Bytes.lawful c.args.key.now (plain p) _ c.args.id
     there.0 w c.requires.taken c.requires.next
-    there.1 refl (sym yes ∙ c.if-starts_with.true) c.label-label.result.now (c.label-label.ensures _ there.1) _ (c.len-front.ensures ∙ c.args.self.now.path.ok.0)
-    c.in_ok-extend_path.ensures (c.value-self.ensures _ there.1)
+    there.1 refl (sym yes ∙ c.if-starts_with.true) there.0.label refl _ (c.len-front.ensures ∙ c.args.self.now.progress.path.ok.0)
+    (c.in_ok-extend_by_label.ensures.label _ there.1) (c.value-self.ensures _ there.1)
     (c.child-self.ensures.node _ there.1)
     (rw (c.sibling.ensures.node _ there.1) at c.in_ok-push_siblings.ensures.items))
 
@@ -42,9 +51,9 @@ returns-then-eq-clause-over g c =
     let p = lent c.args.self.now in
     let w = towards g.K.Bytes.item c.args.key.now p c.requires.front c.requires.towards in
     let there = node_there _ _ (position_within g.K.Bytes.item (plain p) _ w.position c.requires.next) in
-    let begins = rw (c.len-front.ensures, c.args.self.now.path.ok.0, rest_is) at c.starts_with.ensures.value in
+    let begins = rw (c.len-front.ensures, c.args.self.now.progress.path.ok.0, rest_is) at c.starts_with.ensures.value in
     let other = rw (c.label-label.ensures _ there.1) at begins in
-    let compares = rw (c.len-front.ensures, c.args.self.now.path.ok.0, rest_is) at c.cmp.ensures in
+    let compares = rw (c.len-front.ensures, c.args.self.now.progress.path.ok.0, rest_is) at c.cmp.ensures in
     let order = rw (c.label-label.ensures _ there.1) at compares in
     λ _. (
       refl,
@@ -60,9 +69,9 @@ returns-clause-step g c =
     let p = lent c.args.self.now in
     let w = towards g.K.Bytes.item c.args.key.now p c.requires.front c.requires.towards in
     let there = node_there _ _ (position_within g.K.Bytes.item (plain p) _ w.position c.requires.next) in
-    let begins = rw (c.len-front.ensures, c.args.self.now.path.ok.0, rest_is) at c.starts_with.ensures.value in
+    let begins = rw (c.len-front.ensures, c.args.self.now.progress.path.ok.0, rest_is) at c.starts_with.ensures.value in
     let other = rw (c.label-label.ensures _ there.1) at begins in
-    let compares = rw (c.len-front.ensures, c.args.self.now.path.ok.0, rest_is) at c.cmp.ensures in
+    let compares = rw (c.len-front.ensures, c.args.self.now.progress.path.ok.0, rest_is) at c.cmp.ensures in
     let order = rw (c.label-label.ensures _ there.1) at compares in
     let begun = sym other ∙ c.if-starts_with.false in
     λ _. approaches g.K.Bytes.item c.args.key.now p _ c.requires.front c.requires.front

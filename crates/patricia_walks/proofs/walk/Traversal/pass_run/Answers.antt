@@ -28,7 +28,7 @@ pub run-id-requires : goal.run-id-requires
 run-id-requires g c =
     let p = lent c.args.self.now in
     let key = c.args.key.now in
-    let byte = byte_at (length p.path) c.len.result key (c.len.ensures ∙ c.args.self.now.path.ok.0) in
+    let byte = byte_at (length p.path) c.len.result key (c.len.ensures ∙ c.args.self.now.progress.path.ok.0) in
     record {
       within = λ to run. run_within g.K.Bytes.item g.met.K.Bytes.lawful key c.args.self.now.arena.now.nodes c.args.first to (plain p) refl
           (subst (IsTowards g.K.Bytes.item key) (seen_at_end p c.requires.front) c.requires.towards)
@@ -41,7 +41,7 @@ returns-clause-passes g c =
     let p = lent c.args.self.now in
     let key = c.args.key.now in
     let nodes = c.args.self.now.arena.now.nodes in
-    let byte = byte_at (length p.path) c.len.result key (c.len.ensures ∙ c.args.self.now.path.ok.0) in
+    let byte = byte_at (length p.path) c.len.result key (c.len.ensures ∙ c.args.self.now.progress.path.ok.0) in
     let behind = passes_behind g.K.Bytes.item g.met.K.Bytes.lawful key nodes c.args.first c.run-id.result (plain p) refl
     (subst (IsTowards g.K.Bytes.item key) (seen_at_end p c.requires.front) c.requires.towards)
     c.requires.taken c.requires.next (something (length p.path) key c.requires.short)

@@ -13,7 +13,7 @@ use Rattle.patricia_walks.proofs.walk.Traversal.skip.Goals as goal
 
 pub loop-front-init : goal.loop-front-init
 loop-front-init g c =
-    let long : (c.args.self.now.next ≡ None) ⊎ (c.args.len ≤ c.args.self.now.front) = elim c.else-self-len.branch [
+    let long : (c.args.self.now.progress.next ≡ None) ⊎ (c.args.len ≤ c.args.self.now.progress.front) = elim c.else-self-len.branch [
       | else-self-len-via-then-self-len+else-is_some w ↦ inl (sym w.get.ensures ∙ not_some w.get.result w.if-is_some.ensures)
       | else-self-len-via-else-self-len w ↦ inr w.if-self-len.false
     ] in
@@ -32,28 +32,28 @@ returns-then-is_some-clause-passed g c =
 pub returns-then-front-len-clause-passed : goal.returns-then-front-len-clause-passed
 returns-then-front-len-clause-passed g c =
     let s = c.loop-front.self in
-    let stack = s.stack.items in
+    let stack = s.progress.stack.items in
     let last : slice_get stack (length stack - 1) ≡ Some c.in-Some.field-0.now =
     ap (λ l. slice_get l (length l - 1)) (sym c.deref.ensures.value) ∙ sym c.last.ensures.value ∙ ap option_copied c.in-Some.is in
     ended_below g.K.Bytes.item g.met.K.Bytes.lawful c.args.len (seen (lent c.args.self.now)) (seen (lent s))
     (take (length stack - 1) stack) _ _ c.loop-front.invariant.passing c.requires.valid c.requires.within
-    (stack_none s.front s.path.items s.next stack c.loop-front.invariant.none ∙ last_split stack c.in-Some.field-0.now last)
+    (stack_none s.progress.front s.progress.path.items s.progress.next stack c.loop-front.invariant.none ∙ last_split stack c.in-Some.field-0.now last)
     c.if-front-len.true
 
 pub loop-front-preserved : goal.loop-front-preserved
 loop-front-preserved g c =
     let s = c.loop-front.self in
-    let stack = s.stack.items in
+    let stack = s.progress.stack.items in
     let last : slice_get stack (length stack - 1) ≡ Some c.in-Some.field-0.now =
     ap (λ l. slice_get l (length l - 1)) (sym c.deref.ensures.value) ∙ sym c.last.ensures.value ∙ ap option_copied c.in-Some.is in
-    let left = c.pop.ensures.rest ∙ ap (λ n. take (n - 1) stack) c.loop-front.self.stack.ok.0 in
+    let left = c.pop.ensures.rest ∙ ap (λ n. take (n - 1) stack) c.loop-front.self.progress.stack.ok.0 in
     let none = c.loop-front.invariant.none in
     record {
       passing = pass_last g.K.Bytes.item g.met.K.Bytes.lawful c.args.len (seen (lent c.args.self.now)) (seen (lent s)) _ _ _
           c.loop-front.invariant.passing c.if-front-len.false
-          (stack_none s.front s.path.items s.next stack none ∙ last_split stack c.in-Some.field-0.now last
+          (stack_none s.progress.front s.progress.path.items s.progress.next stack none ∙ last_split stack c.in-Some.field-0.now last
           ∙ ap (λ l. l ++ c.in-Some.field-0.now ∷ [])
-          (sym left ∙ sym (stack_none s.front s.path.items s.next c.pop.new.self.items none))) refl refl refl refl;
+          (sym left ∙ sym (stack_none s.progress.front s.progress.path.items s.progress.next c.pop.new.self.items none))) refl refl refl refl;
       none = none;
       within = c.loop-front.invariant.within;
     }
@@ -61,8 +61,8 @@ loop-front-preserved g c =
 pub returns-clause-passed : goal.returns-clause-passed
 returns-clause-passed g c =
     let s = c.loop-front.self in
-    let stack = s.stack.items in
+    let stack = s.progress.stack.items in
     let none : slice_get stack (length stack - 1) ≡ None =
     ap (λ l. slice_get l (length l - 1)) (sym c.deref.ensures.value) ∙ sym c.last.ensures.value ∙ ap option_copied c.in_default.is in
     ended_none g.K.Bytes.item g.met.K.Bytes.lawful c.args.len (seen (lent c.args.self.now)) (seen (lent s))
-    c.loop-front.invariant.passing (stack_none s.front s.path.items s.next stack c.loop-front.invariant.none ∙ last_none stack none)
+    c.loop-front.invariant.passing (stack_none s.progress.front s.progress.path.items s.progress.next stack c.loop-front.invariant.none ∙ last_none stack none)

@@ -22,7 +22,7 @@ loop-self-init g c =
 
 pub returns-then-len-key-clause-left : goal.returns-then-len-key-clause-left
 returns-then-len-key-clause-left g c =
-    sym (reached_end g.K.Bytes.item c.args.key.now (seen (lent c.loop-self.self)) c.loop-self.invariant.towards (omega (arith, c.if-len-key.true, c.len.ensures, c.loop-self.self.path.ok.0)))
+    sym (reached_end g.K.Bytes.item c.args.key.now (seen (lent c.loop-self.self)) c.loop-self.invariant.towards (omega (arith, c.if-len-key.true, c.len.ensures, c.loop-self.self.progress.path.ok.0)))
     ∙ c.loop-self.invariant.same
 
 pub returns-in_default-clause-left : goal.returns-in_default-clause-left
@@ -30,8 +30,8 @@ returns-in_default-clause-left g c =
     let p = seen (lent c.loop-self.self) in
     let w = c.loop-self.invariant.towards in
     sym (reached_none g.K.Bytes.item c.args.key.now (passed_value p) (value_towards g.K.Bytes.item c.args.key.now p w) refl
-    (next_none c.loop-self.self.front c.loop-self.self.path.items c.loop-self.self.next (sym c.get.ensures ∙ c.in_default.is)))
-    ∙ value_same g.K.Bytes.item c.args.key.now p w (λ e. absurd (omega (arith, e, c.if-len-key.false, c.len.ensures, c.loop-self.self.path.ok.0)))
+    (next_none c.loop-self.self.progress.front c.loop-self.self.progress.path.items c.loop-self.self.progress.next (sym c.get.ensures ∙ c.in_default.is)))
+    ∙ value_same g.K.Bytes.item c.args.key.now p w (λ e. absurd (omega (arith, e, c.if-len-key.false, c.len.ensures, c.loop-self.self.progress.path.ok.0)))
     ∙ c.loop-self.invariant.same
 
 pub returns-then-not-branch-clause-left : goal.returns-then-not-branch-clause-left
@@ -41,7 +41,7 @@ returns-then-not-branch-clause-left g c =
     let over = c.in_ok-approach.ensures.over c.if-not-branch.true in
     ap (λ (x : FrontPosition g.row.V.Denot). entries_ahead (seen x)) over.0 ∙ sym over.1
     ∙ c.pass_run-id.ensures.passes.same
-    ∙ value_same g.K.Bytes.item c.args.key.now p w (λ e. absurd (omega (arith, e, c.if-len-key.false, c.len.ensures, c.loop-self.self.path.ok.0)))
+    ∙ value_same g.K.Bytes.item c.args.key.now p w (λ e. absurd (omega (arith, e, c.if-len-key.false, c.len.ensures, c.loop-self.self.progress.path.ok.0)))
     ∙ c.loop-self.invariant.same
 
 pub loop-self-preserved : goal.loop-self-preserved
@@ -54,6 +54,6 @@ loop-self-preserved g c =
       front = c.in_ok-approach.ensures.front;
       same = step.same
           ∙ c.pass_run-id.ensures.passes.same
-          ∙ value_same g.K.Bytes.item c.args.key.now p w (λ e. absurd (omega (arith, e, c.if-len-key.false, c.len.ensures, c.loop-self.self.path.ok.0)))
+          ∙ value_same g.K.Bytes.item c.args.key.now p w (λ e. absurd (omega (arith, e, c.if-len-key.false, c.len.ensures, c.loop-self.self.progress.path.ok.0)))
           ∙ c.loop-self.invariant.same;
     }

@@ -9,7 +9,7 @@ use Rattle.patricia_walks.proofs.walk.Traversal.skip_to.Given as goal
 abbrev pub invariant-loop-self : goal.invariant-loop-self
 invariant-loop-self g l = record {
   towards : IsTowards g.K.Bytes.item l.fn.key (seen (lent l.self));
-  front : l.self.front ≡ length l.self.path.items;
+  front : l.self.progress.front ≡ length l.self.progress.path.items;
   same : from l.fn.key (entries_ahead (seen (lent l.self))) ≡ from l.fn.key (entries_ahead (seen (lent l.initial.self)));
 }
 

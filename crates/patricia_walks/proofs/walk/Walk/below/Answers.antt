@@ -18,11 +18,13 @@ invariant_of-result g c =
     front_at_end g.K.Bytes.item
     (lent (record {
       arena = c.args.arena;
-      path = c.extend_from_slice-2.new.self;
-      front = c.len.result;
+      progress = record {
+        path = c.extend_from_slice-2.new.self;
+        front = c.len.result;
+        next = c.child.result;
+        stack = c.new.result;
+      };
       pending = c.value.result;
-      next = c.child.result;
-      stack = c.new.result;
     })) (c.len.ensures ∙ c.extend_from_slice-2.new.self.ok.0)
     (position_top g.K.Bytes.item c.args.arena.now c.args.front.now c.args.top there.0 c.requires there.1 _ refl path
     (c.child.ensures.node _ there.1) c.new.ensures.items)
@@ -37,11 +39,13 @@ returns g c =
     in
     let p : FrontPosition g.row.V.Denot = lent (record {
       arena = c.args.arena;
-      path = c.extend_from_slice-2.new.self;
-      front = c.len.result;
+      progress = record {
+        path = c.extend_from_slice-2.new.self;
+        front = c.len.result;
+        next = c.child.result;
+        stack = c.new.result;
+      };
       pending = c.value.result;
-      next = c.child.result;
-      stack = c.new.result;
     }) in
     ap entries_ahead (seen_at_end p (c.len.ensures ∙ c.extend_from_slice-2.new.self.ok.0))
     ∙ left_top g.K.Bytes.item c.args.arena.now c.args.front.now c.args.top there.0

@@ -6,7 +6,7 @@ use Rattle.patricia_walks.proofs.walk.reading.ReadCursor.skip.Goals as goal
 
 pub returns-clause-left : goal.returns-clause-left
 returns-clause-left g c = λ key value n at floor.
-    let path = c.self.inside.place.path.items in
+    let path = c.self.inside.place.progress.path.items in
     let here : key ≡ path = key_here _ c.self.inside.value path key value (ap (λ v. v.at) c.self.view_is ∙ at) in
     let whole = rw (c.min.ensures, c.as_slice-path.ensures.value) at c.floor_boundary-whole.ensures in
     let front : take n key ≡ take c.floor_boundary-whole.result path = front_same g.K.Bytes.item key path c.args.len c.floor_boundary-whole.result n here whole floor in
@@ -15,7 +15,7 @@ returns-clause-left g c = λ key value n at floor.
 
 pub returns-clause-first : goal.returns-clause-first
 returns-clause-first g c = λ key value n at floor.
-    let path = c.self.inside.place.path.items in
+    let path = c.self.inside.place.progress.path.items in
     let here : key ≡ path = key_here _ c.self.inside.value path key value (ap (λ v. v.at) c.self.view_is ∙ at) in
     let whole = rw (c.min.ensures, c.as_slice-path.ensures.value) at c.floor_boundary-whole.ensures in
     let front : take n key ≡ take c.floor_boundary-whole.result path = front_same g.K.Bytes.item key path c.args.len c.floor_boundary-whole.result n here whole floor in

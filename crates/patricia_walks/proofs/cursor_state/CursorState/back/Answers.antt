@@ -1,9 +1,0 @@
-use Rattle.std.proofs.Common.{refl}
-use Rattle.patricia_walks.proofs.PositionLemmas.{goes_back}
-use Rattle.patricia_walks.proofs.cursor_state.CursorState.back.Goals as goal
-
-pub returns-clause-step : goal.returns-clause-step
-returns-clause-step g c =
-    λ _. goes_back g.K.Bytes.item g.met.K.Bytes.lawful _ _ c.in-Some.front c.in-Some.siblings c.requires.position
-    c.requires.taken c.requires.over c.in-Some.ensures.items refl c.truncate.ensures.items refl
-    (cc)
