@@ -59,7 +59,7 @@ pub struct Lookup {
     at: Link,
     // how many bytes of the key the nodes above them have
     passed: usize,
-    // what was last read of the node there: the first byte of its label
+    // what was last read ahead: of the node there the first byte of its label
     first: u8,
     // at its end the node of the key, where there is one
     end: Link,
@@ -79,6 +79,18 @@ impl Lookup {
             end: Link::none(),
             best: Link::none(),
             best_len: 0,
+        }
+    }
+
+    /// Reads both ends of the key that is to be looked up. A key of usual length has no other line
+    /// of memory.
+    #[inline(always)]
+    pub fn read_key<Q: BorrowedBytes>(&mut self, key: Q)
+        ensures { self.new ≡ record self.old { first = self.new.first } }
+    {
+        let bytes = key.as_bytes();
+        if !bytes.is_empty() {
+            self.first = bytes[0] ^ bytes[bytes.len() - 1];
         }
     }
 

@@ -25,8 +25,20 @@ const FEW: usize = 3;
 // a look-up of more steps, which is rare, goes on by itself
 const MOST_ROUNDS: usize = 64;
 
-// Reads the heads of the nodes where the look-ups at these places are. Nothing here waits for what
-// was read, so that all wait for memory together.
+// Reads the keys. Nothing here waits for what was read, so that all wait for memory together.
+#[inline(never)]
+fn read_keys<Q: BorrowedBytes>(keys: &[Q], lookups: &mut [Lookup])
+    requires { length keys.now ≡ length lookups.old }
+    ensures { length lookups.new ≡ length lookups.old }
+{
+    let mut k = 0;
+    while k < keys.len() {
+        lookups[k].read_key(keys[k]);
+        k += 1;
+    }
+}
+
+// Reads the heads of the nodes where the look-ups at these places are, in the same way.
 #[inline(never)]
 fn read_heads<Q: BorrowedBytes, V>(
     arena: &NodeArena<V>,
@@ -270,6 +282,7 @@ pub fn look_up<Q: BorrowedBytes, V>(
         (list_map Q.key keys.now) lookups.new }
     ensures ended { AreEndedTo (length keys.now) lookups.new }
 {
+    read_keys(keys, lookups);
     start_all(arena, keys, by_prefix, lookups);
     finish_all(arena, keys, by_prefix, lookups);
 }
