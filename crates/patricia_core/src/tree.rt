@@ -145,6 +145,14 @@ impl<K: Bytes, V: Drop> Tree<K, V> {
         self.parts.arena.settle(self.parts.alloc);
     }
 
+    /// Relocates nodes that were made in the order of keys, in which their labels lie and stay.
+    /// Without memory for that the nodes stay, too.
+    pub fn settle_nodes(&mut self)
+        ensures { self.new ≡ self.old }
+    {
+        self.parts.arena.settle_nodes(self.parts.alloc);
+    }
+
     /// Looks a key up. It takes a step for the root, and one for each node whose label is compared
     /// with the key.
     pub fn get_counted<Q: BorrowedBytes<Owned = K>, L: Ledger>(
@@ -405,7 +413,7 @@ impl<K: Bytes, V: Drop> Tree<K, V> {
             IsRefusal K.item W.width bytes.now (length values.items) e) }
     {
         let mut tree = Self::decoded::<W>(alloc, bytes, values)?;
-        tree.settle();
+        tree.settle_nodes();
         Ok(tree)
     }
 

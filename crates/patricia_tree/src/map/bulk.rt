@@ -62,6 +62,15 @@ impl<K: Bytes, V: Drop> GenericPatriciaMap<K, V> {
         }
     }
 
+    // The same where keys came in order: their labels lie in it, and stay.
+    pub(crate) fn settle_nodes_since(&mut self, before: usize)
+        ensures { self.new ≡ self.old }
+    {
+        if self.len() / 2 > before {
+            self.tree.settle_nodes();
+        }
+    }
+
     /// Makes a map of pairs, inserted one after the other: of two values for one key the later
     /// stays. The iterator must end.
     ///

@@ -169,7 +169,7 @@ impl<K: Bytes, V: Drop> GenericPatriciaMap<K, V> {
             }
         }
         load.give_back(self);
-        self.settle_since(before);
+        self.settle_nodes_since(before);
         Ok(())
     }
 }

@@ -54,6 +54,13 @@ impl<T: Bytes> GenericPatriciaSet<T> {
         self.map.settle_since(before);
     }
 
+    // The same where elements came in order.
+    pub(super) fn settle_nodes_since(&mut self, before: usize)
+        ensures { self.new ≡ self.old }
+    {
+        self.map.settle_nodes_since(before);
+    }
+
     /// Makes a set of elements, inserted one after the other. The iterator must end.
     ///
     /// Takes the time of an `insert` for each element.

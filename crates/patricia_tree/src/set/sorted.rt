@@ -55,7 +55,7 @@ impl<T: Bytes> GenericPatriciaSet<T> {
             }
         }
         load.give_back(&mut self.map);
-        self.settle_since(before);
+        self.settle_nodes_since(before);
         Ok(())
     }
 }

@@ -2,6 +2,11 @@ use Rattle.std.proofs.Common.{sym, ◌∙◌}
 use Rattle.patricia_run.proofs.EntryLemmas.{OnErr-from, one_more_entry, some_entry}
 use Rattle.patricia_run.proofs.bench.entries_of.Goals as goal
 
+pub returns-in_err-key-clause-err : goal.returns-in_err-key-clause-err
+returns-in_err-key-clause-err g c =
+    let gave = rw c.in_err-key.was at c.in-Some.ensures.steps in
+    OnErr-from c.from_residual.result (some_entry g.K.Bytes.key c.loop-entry.listed.items c.loop-entry.entry-iterator _ gave.0 c.loop-entry.invariant)
+
 pub loop-entry-preserved : goal.loop-entry-preserved
 loop-entry-preserved g c =
     let gave = rw c.in_ok-key.was at c.in-Some.ensures.steps in

@@ -27,6 +27,6 @@ returns-clause-ok g c = record {
   given = c.loop-key.yielded;
   is_start = c.into_iter-rest.ensures.into_iter_gives;
   gave_all = (_, (_, c.loop-key.yielded_by, c.in_default.ensures.steps));
-  behind = ap map.entries (c.settle_since.ensures ∙ c.give_back-2.ensures)
+  behind = ap map.entries (c.settle_nodes_since.ensures ∙ c.give_back-2.ensures)
       ∙ rw c.take-load.ensures.entries at c.loop-key.invariant.behind;
 }

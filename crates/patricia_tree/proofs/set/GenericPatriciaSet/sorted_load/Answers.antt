@@ -27,4 +27,4 @@ returns-clause-ok g c = load_ends_at g.I.IntoIterator.into_iter_gives g.I.IntoIt
     g.Q.BorrowedBytes.key c.args.elements c.args.self.now c.loop-element.load.loader _ _ _ c.loop-element.yielded
     c.into_iter-rest.ensures.into_iter_gives c.loop-element.yielded_by
     (rw (c.take-load.ensures.entries ∙ c.self.view_is) at c.loop-element.invariant.behind)
-    c.in_default.ensures.steps (c.settle_since.ensures ∙ c.give_back-2.ensures)
+    c.in_default.ensures.steps (c.settle_nodes_since.ensures ∙ c.give_back-2.ensures)
