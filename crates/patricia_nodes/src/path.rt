@@ -1,5 +1,6 @@
 //! The bytes of a key that are passed on the way to its node.
-ghost use Rattle.std.specs.Prelude.{◌≡◌, ◌<◌, ◌++◌, [], length, IfOk, OnOk, OnErr};
+ghost use Rattle.std.specs.Prelude.{◌≡◌, ◌<◌, ◌≤◌, ◌++◌, [], length, take};
+ghost use Rattle.std.specs.Prelude.{IfOk, OnOk, OnErr};
 ghost use Rattle.patricia_keys.specs.Keys.{IsValid};
 ghost use Rattle.patricia_nodes.specs.Internal.NodeVecs.{ReadsNode};
 
@@ -29,6 +30,26 @@ fn make_room(path: &mut Vec<u8>) -> Result<(), AllocError>
     Ok(())
 }
 
+// How many bytes a copy has that needs no call, since their number is known.
+const WIDE: usize = 32;
+
+// Adds the first bytes of a list. Where few are asked for, the list goes on and there is room, it
+// adds `WIDE` bytes and cuts off what is too much.
+#[inline(always)]
+fn extend_by_first(path: &mut Vec<u8>, bytes: &[u8], len: usize) -> Result<(), AllocError>
+    requires within { len ≤ length bytes.now }
+    ensures ok { OnOk result (path.new.items ≡ path.old.items ++ take len bytes.now) }
+    ensures same { OnErr result (path.new.items ≡ path.old.items) }
+{
+    let end = path.len();
+    if len <= WIDE && WIDE <= bytes.len() && WIDE <= path.capacity() - end {
+        path.extend_from_slice(&bytes[..WIDE])?;
+        path.truncate(end + len);
+        return Ok(());
+    }
+    path.extend_from_slice(&bytes[..len])
+}
+
 /// Adds the label of a node. Where it has one byte, the node's head alone is read. Where there is
 /// no room yet, it makes room for the bytes of most keys.
 #[inline(always)]
@@ -48,5 +69,6 @@ pub fn extend_by_label<K: Bytes, V>(
         path.push(nodes.first_byte(id))?;
         return Ok(());
     }
-    path.extend_from_slice(nodes.label(id))
+    let (bytes, len) = nodes.label_onwards(id);
+    extend_by_first(path, bytes, len)
 }

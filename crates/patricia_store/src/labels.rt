@@ -200,6 +200,16 @@ impl Labels {
         &self.bytes[start..start + len]
     }
 
+    /// The bytes from the label on that is there, and how many of them it has.
+    pub fn get_onwards(&self, span: Span) -> (&[u8], usize)
+        requires { IsSpan self.now.items span }
+        ensures label { take result.1 result.0.now ≡ label_in self.now.items span }
+        ensures within { result.1 ≤ length result.0.now }
+    {
+        let (start, len) = bounds(self.bytes.as_slice(), span);
+        (&self.bytes[start..], len)
+    }
+
     /// Adds a label. Does not allocate.
     pub fn push(&mut self, label: &[u8]) -> Span
         requires { label_room (length label.now) ≤ self.old.room }

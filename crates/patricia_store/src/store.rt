@@ -128,6 +128,17 @@ impl<V> Store<V> {
         self.labels.get(span)
     }
 
+    /// The bytes from the label of a node on, and how many of them it has. Reads no more than
+    /// `label` does.
+    pub fn label_onwards(&self, id: usize) -> (&[u8], usize)
+        requires { id < length self.now.items }
+        ensures node { ReadsNode self.now id (λ n. take result.1 result.0.now ≡ n.label) }
+        ensures within { result.1 ≤ length result.0.now }
+    {
+        let span = span_of(self.heads[id], &self.bodies[id]);
+        self.labels.get_onwards(span)
+    }
+
     /// The value of a node, where there is one.
     pub fn value(&self, id: usize) -> Option<&V>
         requires { id < length self.now.items }

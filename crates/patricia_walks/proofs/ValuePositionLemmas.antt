@@ -16,7 +16,7 @@ use Rattle.patricia_nodes.proofs.PlanLemmas.{plan_is, siblings_none}
 use Rattle.patricia_nodes.proofs.SeekLemmas.{head_within, opened, whole_plan}
 use Rattle.patricia_walks.specs.declared.held_tree.ValueSlot.{ValueSlot}
 use Rattle.patricia_walks.specs.declared.held_tree.ValueSlot.TheVariants.{OfNode}
-use Rattle.patricia_walks.specs.declared.value_front.ValueFront.{ValueFront}
+use Rattle.patricia_walks.specs.declared.value_progress.ValueProgress.{ValueProgress}
 use Rattle.patricia_walks.specs.Internal.Holders.{numbered_slots, holders, held, ReadsHeld}
 use Rattle.patricia_walks.specs.Internal.ValuePositions.{ValuePosition, values_in, values_waiting}
 use Rattle.patricia_walks.specs.Internal.ValuePositions.{values_left, value_steps_waiting}
@@ -286,17 +286,17 @@ module _ {V : Type 0} (nodes : List (Node V)) where
       by (Some n) is = ap value_in is ∙ sym (reads n (reads_there nodes id n is))
 
   -- a walk that is over has no values left
-  pub ended_ahead : (f : ValueFront) → f.next ≡ None → f.stack.items ≡ []
+  pub ended_ahead : (f : ValueProgress) → f.next ≡ None → f.stack.items ≡ []
       → values_ahead nodes f ≡ []
   ended_ahead f next stack = ap (values_held nodes) (nothing_left (place_of nodes f) next stack)
 
-  pub ended_front : (f : ValueFront) → f.next ≡ None → f.stack.items ≡ [] → IsFrontOf nodes f
+  pub ended_front : (f : ValueProgress) → f.next ≡ None → f.stack.items ≡ [] → IsFrontOf nodes f
   ended_front f next stack = record {
     position = stands_at_end (place_of nodes f) next stack;
     hold = subst (AllHold nodes) (sym (nothing_left (place_of nodes f) next stack)) tt;
   }
 
-module _ (item : List ℕ → Type 0) {V : Type 0} (s : NodeArena V) (f : ValueFront)
+module _ (item : List ℕ → Type 0) {V : Type 0} (s : NodeArena V) (f : ValueProgress)
     (whole : IsWellFormed s) (next : f.next ≡ s.root) (stack : f.stack.items ≡ []) where
   -- at its start a walk stands at the top siblings
   pub stands_at_start : IsCanonical item (siblings_of s)

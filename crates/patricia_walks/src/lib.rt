@@ -20,7 +20,7 @@ pub mod range;
 pub mod reach;
 pub mod under;
 pub mod value_cursor;
-mod value_front;
+mod value_progress;
 pub mod value_walk;
 mod waiting;
 pub mod walk;

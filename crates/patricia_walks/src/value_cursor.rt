@@ -13,7 +13,7 @@ ghost use Rattle.patricia_walks.specs.Internal.ValueCursorStates.{spot_of, holde
 ghost use Rattle.patricia_walks.specs.Internal.ValueCursorStates.{MoveIsRefused};
 
 use crate::held_tree::{HeldTree, ValueSlot};
-use crate::value_front::ValueFront;
+use crate::value_progress::ValueProgress;
 use patricia_keys::Bytes;
 use patricia_nodes::parts::TreeParts;
 use std::alloc::AllocError;
@@ -25,7 +25,7 @@ struct ValueCursorState<V> {
     tree: HeldTree<V>,
     // who holds the value of the empty key, while it is due
     pending: Option<ValueSlot>,
-    front: ValueFront,
+    front: ValueProgress,
 }
 
 impl<V> ValueCursorState<V> {
@@ -41,7 +41,7 @@ impl<V> ValueCursorState<V> {
         let alloc = parts.alloc;
         let tree = HeldTree { parts, last: None };
         let pending = tree.root_value_slot();
-        let front = ValueFront::new(alloc, tree.root());
+        let front = ValueProgress::new(alloc, tree.root());
         ValueCursorState {
             tree,
             pending,

@@ -5,7 +5,7 @@ ghost use Rattle.patricia_model.specs.Siblings.{own, IsCanonical};
 ghost use Rattle.patricia_model.specs.Walks.{YieldsOrErr, values_of};
 ghost use Rattle.patricia_nodes.specs.Internal.Plans.{IsWellFormed, siblings_of, entries_of};
 
-use crate::value_front::ValueFront;
+use crate::value_progress::ValueProgress;
 use patricia_keys::Bytes;
 use patricia_nodes::arena::NodeArena;
 use std::alloc::{AllocError, Global};
@@ -17,7 +17,7 @@ pub struct ValueWalk<'a, V> {
     arena: &'a NodeArena<V>,
     // the value of the empty key, while it is due
     pending: Option<&'a V>,
-    front: ValueFront,
+    front: ValueProgress,
 }
 
 impl<'a, V> Model for ValueWalk<'a, V> {
@@ -45,7 +45,7 @@ impl<'a, V> ValueWalk<'a, V> {
         ValueWalk {
             arena,
             pending,
-            front: ValueFront::new(alloc, arena.root),
+            front: ValueProgress::new(alloc, arena.root),
         }
     }
 

@@ -111,6 +111,15 @@ impl<V> NodeVec<V> {
         self.store.label(id.index())
     }
 
+    /// The bytes from a node's label on, and how many of them it has.
+    pub fn label_onwards(&self, id: NodeId) -> (&[u8], usize)
+        requires { id < length self.now.items }
+        ensures node { ReadsNode self.now id (λ n. take result.1 result.0.now ≡ n.label) }
+        ensures within { result.1 ≤ length result.0.now }
+    {
+        self.store.label_onwards(id.index())
+    }
+
     /// The length of a node's label, in bytes. Reads its head alone where that is less than 63.
     pub fn label_len(&self, id: NodeId) -> usize
         requires { id < length self.now.items }

@@ -6,7 +6,7 @@ use Rattle.patricia_model.specs.Internal.WalkStates.{steps_in}
 use Rattle.patricia_store.specs.Internal.Nodes.{Node}
 use Rattle.patricia_nodes.specs.Internal.Plans.{plan_at, IsPlan, siblings_at}
 use Rattle.patricia_walks.specs.declared.held_tree.ValueSlot.{ValueSlot}
-use Rattle.patricia_walks.specs.declared.value_front.ValueFront.{ValueFront}
+use Rattle.patricia_walks.specs.declared.value_progress.ValueProgress.{ValueProgress}
 use Rattle.patricia_walks.specs.Internal.Holders.{numbered_slots, held}
 
 -- a place in a walk over values: the nodes, the number of the siblings that are next, and those of
@@ -79,7 +79,7 @@ module _ {V : Type 0} where
 
 module _ {V : Type 0} where
   -- the place of a walk over the holders of the values
-  abbrev pub place_of : List (Node V) → ValueFront → ValuePosition ValueSlot
+  abbrev pub place_of : List (Node V) → ValueProgress → ValuePosition ValueSlot
   place_of nodes f = record {
     nodes = numbered_slots 0 nodes;
     next = f.next;
@@ -97,10 +97,10 @@ module _ {V : Type 0} where
   AllHold nodes (h ∷ hs) = (held None nodes h ≢ None) × AllHold nodes hs
 
   -- the values that a walk has left
-  abbrev pub values_ahead : List (Node V) → ValueFront → List V
+  abbrev pub values_ahead : List (Node V) → ValueProgress → List V
   values_ahead nodes f = values_held nodes (values_left (place_of nodes f))
 
   -- it is one over these nodes
-  pub record IsFrontOf (nodes : List (Node V)) (f : ValueFront) : Type 0 where
+  pub record IsFrontOf (nodes : List (Node V)) (f : ValueProgress) : Type 0 where
     pub position : IsValuePosition (place_of nodes f)
     pub hold : AllHold nodes (values_left (place_of nodes f))

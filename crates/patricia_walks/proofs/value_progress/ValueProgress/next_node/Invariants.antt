@@ -1,7 +1,7 @@
 use Rattle.std.proofs.Common.{◌≡◌}
 use Rattle.patricia_walks.specs.Internal.ValuePositions.{IsValuePosition, place_of, values_left}
 use Rattle.patricia_walks.specs.Internal.ValuePositions.{value_steps_left}
-use Rattle.patricia_walks.proofs.value_front.ValueFront.next_node.Given as goal
+use Rattle.patricia_walks.proofs.value_progress.ValueProgress.next_node.Given as goal
 
 abbrev pub invariant-loop-id : goal.invariant-loop-id
 invariant-loop-id g l = record {

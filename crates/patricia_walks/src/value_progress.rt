@@ -15,20 +15,20 @@ use std::alloc::{AllocError, Global};
 
 /// The siblings that are still to come.
 #[derive(Drop)]
-pub struct ValueFront {
+pub struct ValueProgress {
     // the siblings that are next
     pub next: Link,
     // the siblings that wait
     pub stack: Vec<Link>,
 }
 
-impl ValueFront {
+impl ValueProgress {
     /// These siblings are next, and none wait. Making it does not allocate.
-    pub fn new(alloc: Global, next: Link) -> ValueFront
+    pub fn new(alloc: Global, next: Link) -> ValueProgress
         ensures next { result.next ≡ next }
         ensures stack { result.stack.items ≡ [] }
     {
-        ValueFront {
+        ValueProgress {
             next,
             stack: Vec::new(alloc),
         }

@@ -4,9 +4,9 @@ use Rattle.patricia_walks.proofs.NumberLemmas.{marked_node, numbered_slots-lengt
 use Rattle.patricia_walks.proofs.NumberLemmas.{numbered_slots-read}
 use Rattle.patricia_walks.proofs.ValuePositionLemmas.{goes_beside, goes_below, goes_down}
 use Rattle.patricia_walks.proofs.ValuePositionLemmas.{value_within}
-use Rattle.patricia_walks.proofs.value_front.ValueFront.enter.Goals as goal
-use Rattle.patricia_walks.proofs.value_front.ValueFront.enter.Goals.{then-is_some+in_ok-push}
-use Rattle.patricia_walks.proofs.value_front.ValueFront.enter.Goals.{else-is_some}
+use Rattle.patricia_walks.proofs.value_progress.ValueProgress.enter.Goals as goal
+use Rattle.patricia_walks.proofs.value_progress.ValueProgress.enter.Goals.{then-is_some+in_ok-push}
+use Rattle.patricia_walks.proofs.value_progress.ValueProgress.enter.Goals.{else-is_some}
 
 pub child-child-requires : goal.child-child-requires
 child-child-requires g c =

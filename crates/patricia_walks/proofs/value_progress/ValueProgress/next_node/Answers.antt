@@ -10,7 +10,7 @@ use Rattle.patricia_walks.specs.declared.held_tree.ValueSlot.TheVariants.{OfNode
 use Rattle.patricia_walks.specs.Internal.ValuePositions.{place_of, values_left, IsRefused}
 use Rattle.patricia_walks.proofs.NumberLemmas.{numbered_slots-length}
 use Rattle.patricia_walks.proofs.ValuePositionLemmas.{goes_back, value_filled, value_within}
-use Rattle.patricia_walks.proofs.value_front.ValueFront.next_node.Goals as goal
+use Rattle.patricia_walks.proofs.value_progress.ValueProgress.next_node.Goals as goal
 
 pub value-requires : goal.value-requires
 value-requires g c =
