@@ -1,5 +1,6 @@
 pub mod Asks
 pub mod Internal
+pub mod Merges
 pub mod RangeWalks
 pub use Rattle.patricia_distance.specs.Edits
 pub use Rattle.patricia_keys.specs.ByteKind

@@ -9,6 +9,7 @@ use Rattle.patricia_nodes.specs.declared.arena.seek.Match.{Match}
 use Rattle.patricia_nodes.specs.Internal.Merges.{LeavesOther}
 use Rattle.patricia_nodes.specs.Internal.Plans.{Plan, Cell}
 use Rattle.patricia_nodes.specs.Internal.Places.{Frame, InChild, InSibling, above_of, link_ref_of, Leads}
+use Rattle.patricia_nodes.specs.Internal.Places.{Placed}
 use Rattle.patricia_nodes.specs.Internal.Trails.{path_of, AreAbove, IsTrail, KeepsAround, PlacedBehind}
 use Rattle.patricia_nodes.specs.Internal.Writes.{Stays}
 use Rattle.patricia_nodes.proofs.TrailLemmas.{IsCutFrom, cut_within, above_deeper, filled_length}
@@ -85,6 +86,24 @@ module _ {V : Type 0} where
       | inr s ↦ leads_to item (InSibling o left.inner left.own left.below ∷ InChild u left.label None left.beside ∷ [])
           left.outer key rest some (subst (λ fs. Leads item fs key rest) s.0 leads)
     ]
+
+-- a place is one past no nodes
+pub behind_none : {item : List ℕ → Type 0} → {V : Type 0} → {s : NodeArena V} → {key : List ℕ}
+    → {link_ref : LinkRef} → {at : Option ℕ} → {rest : List ℕ} → {matched : Match}
+    → Placed item s key link_ref at rest matched → PlacedBehind item s key link_ref at rest matched []
+behind_none p = record {
+  come = record {
+    frames = p.frames;
+    focus = p.focus;
+    fills = p.fills;
+    link_ref_is = p.link_ref_is;
+    at_is = p.at_is;
+    leads = p.leads;
+    rest_nonempty = p.rest_nonempty;
+    above = tt;
+  };
+  is_match = p.is_match;
+}
 
 module _ {item : List ℕ → Type 0} {V : Type 0} {s : NodeArena V} {key : List ℕ}
     {link_ref : LinkRef} {at : Option ℕ} {rest : List ℕ} {matched : Match} {trail : List (ℕ × ℕ)}

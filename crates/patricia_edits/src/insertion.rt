@@ -1,17 +1,18 @@
 //! Putting a value in at a key.
-ghost use Rattle.std.specs.Prelude.{◌≡◌, ◌≢◌, ◌≤◌, ◌<◌, ◌+◌, ℕ, [], Some, None, drop, length};
-ghost use Rattle.std.specs.Prelude.{IfOk, OnOk, IfErr, IfSome, OnErr};
+ghost use Rattle.std.specs.Prelude.{◌≡◌, ◌≢◌, ◌≤◌, ◌<◌, ◌+◌, ℕ, List, [], Some, None, drop};
+ghost use Rattle.std.specs.Prelude.{IfOk, OnOk, IfErr, IfSome, OnErr, length};
 ghost use Rattle.std.specs.FinMap.{find};
 ghost use Rattle.patricia_keys.specs.Keys.{key_cmp};
 ghost use Rattle.patricia_model.specs.Siblings.{IsCanonical};
 ghost use Rattle.patricia_nodes.specs.declared.arena.seek.LinkRef.TheVariants.{Child, Sibling};
 ghost use Rattle.patricia_nodes.specs.declared.arena.seek.Match.TheVariants.{Absent, InsideLabel};
 ghost use Rattle.patricia_store.specs.Internal.Labels.{label_room, cut_room};
+ghost use Rattle.patricia_nodes.specs.Internal.Loans.{HasValueNode, with_value};
 ghost use Rattle.patricia_nodes.specs.Internal.NodeVecs.{ReadsNode};
 ghost use Rattle.patricia_nodes.specs.Internal.Plans.{linked, IsWellFormed, siblings_of};
 ghost use Rattle.patricia_nodes.specs.Internal.Plans.{entries_of};
-ghost use Rattle.patricia_nodes.specs.Internal.Places.{node_of};
-ghost use Rattle.patricia_nodes.specs.Internal.Trails.{IsTrail};
+ghost use Rattle.patricia_nodes.specs.Internal.Places.{node_of, IsSeekResult};
+ghost use Rattle.patricia_nodes.specs.Internal.Trails.{IsTrail, IsPlaceBehind};
 ghost use Rattle.patricia_nodes.specs.Internal.Writes.{HasRoomFor, Reuses, HasLinkRef, Ready};
 ghost use Rattle.patricia_nodes.specs.Internal.Writes.{IsPut, IsWithin};
 ghost use Rattle.patricia_edits.specs.Internal.Inserts.{MakesNode, AddsNode, AddsLeaf, HasCell};
@@ -251,6 +252,36 @@ pub fn insert<V: Drop, Q: BorrowedBytes>(
     Ok(insert_at(arena, &place, value))
 }
 
+// Puts the value in at the place of a nonempty key, where no node is.
+fn insert_missing<V: Drop, Q: BorrowedBytes>(
+    arena: &mut NodeArena<V>,
+    place: &SeekResult<Q>,
+    key: Q,
+    value: V,
+) -> Result<(), Refused<V>>
+    requires whole { IsWellFormed arena.old }
+    requires siblings { IsCanonical Q.Owned.item (siblings_of arena.old) }
+    requires place { IsSeekResult Q.Owned.item Q.key arena.old (Q.key key) place.now }
+    requires missing { node_of place.now.matched ≡ None }
+    ensures whole { IsWellFormed arena.new }
+    ensures siblings { IsCanonical Q.Owned.item (siblings_of arena.new) }
+    ensures ok { OnOk result (IsPut arena.old arena.new (Q.key key) value) }
+    ensures refused { IfErr result (λ r. r.value ≡ value) }
+    ensures unchanged { OnErr result (siblings_of arena.new ≡ siblings_of arena.old) }
+    ensures trail { (trail : List (ℕ × ℕ))
+        → IsPlaceBehind Q.Owned.item Q.key arena.old (Q.key key) place.now trail
+        → IsTrail Q.Owned.item arena.new (Q.key key) trail }
+{
+    let Some(bytes) = needed_bytes(key.as_bytes().len()) else {
+        return Err(Refused { value });
+    };
+    if !arena.has_room(bytes) && arena.extend(bytes).is_err() {
+        return Err(Refused { value });
+    }
+    let _none = insert_at(arena, place, value);
+    Ok(())
+}
+
 /// Puts the value in at a nonempty key, and gives the old one. The look-up goes on from the trail
 /// of the last key, and the trail is that of this key then. Free nodes are used first, and each
 /// node stays where it is.
@@ -279,11 +310,53 @@ pub fn insert_along<V: Drop, Q: BorrowedBytes>(
     if place.here().is_some() {
         return Ok(insert_at(arena, &place, value));
     }
-    let Some(bytes) = needed_bytes(key.as_bytes().len()) else {
-        return Err(Refused { value });
-    };
-    if !arena.has_room(bytes) && arena.extend(bytes).is_err() {
-        return Err(Refused { value });
+    match insert_missing(arena, &place, key, value) {
+        Ok(()) => Ok(None),
+        Err(refused) => Err(refused),
     }
-    Ok(insert_at(arena, &place, value))
+}
+
+/// Puts the value in at a nonempty key that has none. Where the key has one, nothing changes, and
+/// the node that has it is returned with the value that was to be put in. The look-up goes on from
+/// the trail of the last key, and the trail is that of this key then, also once the value there is
+/// another one. Free nodes are used first, and each node stays where it is.
+pub fn insert_new_along<V: Drop, Q: BorrowedBytes>(
+    arena: &mut NodeArena<V>,
+    trail: &mut Vec<(NodeId, usize)>,
+    last: Option<Q>,
+    key: Q,
+    value: V,
+) -> Result<Option<(NodeId, V)>, Refused<V>>
+    requires whole { IsWellFormed arena.old }
+    requires siblings { IsCanonical Q.Owned.item (siblings_of arena.old) }
+    requires nonempty { Q.key key ≢ [] }
+    requires trail { IfSome last (λ last.
+        IsTrail Q.Owned.item arena.old (Q.key last) trail.old.items) }
+    ensures whole { IsWellFormed arena.new }
+    ensures siblings { IsCanonical Q.Owned.item (siblings_of arena.new) }
+    ensures inserted { IfOk result (λ there. there ≡ None
+        → (find key_cmp (Q.key key) (entries_of arena.old) ≡ None)
+        × IsPut arena.old arena.new (Q.key key) value) }
+    ensures occupied { IfOk result (λ there. IfSome there (λ there. (there.1 ≡ value)
+        × (arena.new ≡ arena.old)
+        × HasValueNode Q.Owned.item arena.new (Q.key key) there.0)) }
+    ensures refused { IfErr result (λ r. r.value ≡ value) }
+    ensures unchanged { OnErr result (siblings_of arena.new ≡ siblings_of arena.old) }
+    ensures only_new { OnErr result (find key_cmp (Q.key key) (entries_of arena.old) ≡ None) }
+    ensures trail { IsTrail Q.Owned.item arena.new (Q.key key) trail.new.items }
+    ensures written { IfOk result (λ there. IfSome there (λ there. (w : V)
+        → IsTrail Q.Owned.item (with_value arena.new there.0 w) (Q.key key) trail.new.items)) }
+{
+    let found = arena.seek_along(trail, last, key);
+    if let Some(id) = found.here() {
+        if arena.nodes.value(id).is_some() {
+            return Ok(Some((id, value)));
+        }
+        let _none = insert_at(arena, &found, value);
+        return Ok(None);
+    }
+    match insert_missing(arena, &found, key, value) {
+        Ok(()) => Ok(None),
+        Err(refused) => Err(refused),
+    }
 }

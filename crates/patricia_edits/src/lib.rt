@@ -12,7 +12,7 @@ mod splitting;
 
 pub use copying::{copy, copy_value};
 pub use ends::{remove_first, remove_last};
-pub use insertion::{insert, insert_along};
+pub use insertion::{insert, insert_along, insert_new_along};
 pub use pruning::Pruning;
 pub use removal::{remove, remove_along};
 pub use splitting::split;

@@ -1,7 +1,7 @@
 -- The entries of a map, put into another one.
-use Rattle.std.proofs.Common.{◌≡◌, ℕ, List, [], ◌∷◌, Some, refl, sym, subst, ◌∙◌}
+use Rattle.std.proofs.Common.{◌≡◌, ℕ, List, [], ◌∷◌, sym, subst, ◌∙◌}
 use Rattle.std.specs.Borrow.{MutBor}
-use Rattle.std.specs.Fn.{Mut, CalledWithState}
+use Rattle.std.specs.Fn.{Mut}
 use Rattle.std.specs.FinMap as map
 use Rattle.patricia_core.specs.Keys.{key_cmp}
 use Rattle.patricia_tree.specs.Folds.{IsFoldStopped}
@@ -10,12 +10,6 @@ use Rattle.patricia_tree.proofs.FoldLemmas.{IsFolding, folding_stops}
 
 module _ {F V : Type 0}
     (call : Mut F (MutBor V × (V × Unit {0})) (Unit {0} × (MutBor V × Unit {0}))) where
-  -- an entry whose key is there, with what the closure left
-  pub merges_there : (f g : F) (m : map.FinMap key_cmp V) (key : List ℕ) (v u w : V)
-      → map.get m key ≡ Some v → CalledWithState call f v u tt g w
-      → MergesEntry call (f, m) (key, u) (g, map.insert m key w)
-  merges_there f g m key v u w is called = rw is (w, called, refl)
-
   -- an entry that is refused
   pub merging_stops : (f g : F) (old m n : map.FinMap key_cmp V) (entries left later : List (List ℕ × V))
       (entry : List ℕ × V) → left ≡ entry ∷ later → n ≡ m

@@ -5,17 +5,9 @@ use Rattle.std.specs.FinMap as map
 use Rattle.patricia_keys.specs.Keys.{key_cmp}
 use Rattle.patricia_keys.specs.declared.keys.Bytes.{Ghosts}
 use Rattle.patricia_core.specs.contracts.tree.Tree.{the_row}
-use Rattle.patricia_core.specs.contracts.tree.merging.Merger.{the_row as merger_row}
 
 -- the tree ends with the value at the key as the loan leaves it, or as it was where nothing is lent
 abbrev pub tree_lends_entry : (K V : RattleType) → Ghosts K.Denot
     → MutBor (map.FinMap key_cmp V.Denot) → List ℕ
     → Option (MutBor V.Denot) → Fml
 tree_lends_entry K V bytes s key r = LendsIf (the_row K V bytes) V s r (map.insert s.now key) s.now
-
--- the same of a tree that is merged into
-abbrev pub merger_lends_entry : (K V : RattleType) → Ghosts K.Denot
-    → MutBor (map.FinMap key_cmp V.Denot) → List ℕ
-    → Option (MutBor V.Denot) → Fml
-merger_lends_entry K V bytes s key r =
-    LendsIf (merger_row K V bytes) V s r (map.insert s.now key) s.now

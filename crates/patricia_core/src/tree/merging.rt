@@ -1,21 +1,19 @@
 //! A tree that entries are merged into or removed from, with keys that are near one another.
-ghost use Rattle.std.specs.Prelude.{◌≡◌, ◌≢◌, ◌⊎◌, [], None, Some, IfOk, OnOk, IfErr, OnErr};
-ghost use Rattle.std.specs.Prelude.{IfSome, MatchOption};
-ghost use Rattle.std.specs.Borrow.{sem};
+ghost use Rattle.std.specs.Prelude.{◌≡◌, ◌≢◌, ◌<◌, ◌⊎◌, [], None, Some, IfOk, OnOk, IfErr, OnErr};
+ghost use Rattle.std.specs.Prelude.{IfSome, MatchOption, length};
 ghost use Rattle.std.specs.FinMap as map;
-ghost use Rattle.std.specs.Option.{option_copied_mut};
-ghost use Rattle.patricia_keys.specs.Keys.{IsValid, key_cmp};
+ghost use Rattle.std.specs.Fn.{CalledWithState};
+ghost use Rattle.patricia_keys.specs.Keys.{IsValid};
 ghost use Rattle.patricia_model.specs.Points.{Joins};
-ghost use Rattle.patricia_model.specs.Siblings.{IsCanonical};
 ghost use Rattle.patricia_model.specs.Trees.{map_of};
-ghost use Rattle.patricia_nodes.specs.Internal.Loans.{HasValueNode, with_value};
-ghost use Rattle.patricia_nodes.specs.Internal.Plans.{IsWellFormed, entries_of, siblings_of};
-ghost use Rattle.patricia_nodes.specs.Internal.Trails.{IsTrail};
+ghost use Rattle.patricia_nodes.specs.Internal.Loans.{value_of, with_value};
+ghost use Rattle.patricia_nodes.specs.Internal.Plans.{siblings_of};
 ghost use Rattle.patricia_core.specs.Internal.Stores.{IsFilled};
+ghost use Rattle.patricia_core.specs.Merges.{MergesEntry};
 
 use super::loading::insert_behind;
 use super::{Refused, Tree};
-use patricia_edits::remove_along;
+use patricia_edits::{insert_new_along, remove_along};
 use patricia_keys::keys::KeyBytes;
 use patricia_keys::{BorrowedBytes, Bytes};
 use patricia_nodes::arena::NodeArena;
@@ -46,29 +44,73 @@ fn remember(last: &mut Vec<u8>, bytes: &[u8])
     let _kept = last.extend_from_slice(bytes);
 }
 
-// The node of a nonempty key, where a value is there. The look-up goes on from the trail of the
-// last key, and the trail is that of this key then, also once the value is another one.
-fn find_behind<V, Q: BorrowedBytes>(
-    arena: &NodeArena<V>,
+// Puts a value in where none is. Else the closure is called at the one that is there and this one.
+fn merge_value<V: Drop, F: FnMut(&mut V, V)>(there: &mut Option<V>, value: V, f: &mut F)
+    requires callable { F.IsAlwaysCallable f.old }
+    ensures callable { F.IsAlwaysCallable f.new }
+    ensures merged { MatchOption there.old ((f.new ≡ f.old) × (there.new ≡ Some value))
+        (λ v. (w : V) × CalledWithState F.FnMut f.old v value tt f.new w × (there.new ≡ Some w)) }
+{
+    match there.as_mut() {
+        Some(lent) => f(lent, value),
+        None => *there = Some(value),
+    }
+}
+
+// Calls the closure at the value of a node and another one.
+fn merge_at<V: Drop, F: FnMut(&mut V, V)>(arena: &mut NodeArena<V>, id: NodeId, value: V, f: &mut F)
+    requires callable { F.IsAlwaysCallable f.old }
+    requires within { id < length arena.old.nodes.items }
+    ensures callable { F.IsAlwaysCallable f.new }
+    ensures merged { (v : V) → value_of arena.old id ≡ Some v
+        → (w : V) × CalledWithState F.FnMut f.old v value tt f.new w
+        × (arena.new ≡ with_value arena.old id w) }
+{
+    if let Some(lent) = arena.value_mut(id) {
+        f(lent, value);
+    }
+}
+
+// Puts an entry of a nonempty key in. Where the key has a value, the closure is called at it and
+// the new one. The look-up goes on from the trail of the last key, and the trail is that of this
+// key then.
+fn merge_behind<V: Drop, Q: BorrowedBytes, F: FnMut(&mut V, V)>(
+    tree: &mut TreeParts<V>,
     trail: &mut Vec<(NodeId, usize)>,
     last: Option<Q>,
     key: Q,
-) -> Option<NodeId>
-    requires whole { IsWellFormed arena.now }
-    requires siblings { IsCanonical Q.Owned.item (siblings_of arena.now) }
+    value: V,
+    f: &mut F,
+) -> Result<(), AllocError>
+    requires filled { IsFilled Q.Owned.item Q.key tree.old.arena tree.old.count last
+        trail.old.items }
     requires nonempty { Q.key key ≢ [] }
-    requires trail { IfSome last (λ last.
-        IsTrail Q.Owned.item arena.now (Q.key last) trail.old.items) }
-    ensures found { MatchOption result (map.find key_cmp (Q.key key) (entries_of arena.now) ≡ None)
-        (HasValueNode Q.Owned.item arena.now (Q.key key)) }
-    ensures trail { IsTrail Q.Owned.item arena.now (Q.key key) trail.new.items }
-    ensures written { IfSome result (λ id. (w : V)
-        → IsTrail Q.Owned.item (with_value arena.now id w) (Q.key key) trail.new.items) }
+    requires callable { F.IsAlwaysCallable f.old }
+    ensures filled { IsFilled Q.Owned.item Q.key tree.new.arena tree.new.count (Some key)
+        trail.new.items }
+    ensures callable { F.IsAlwaysCallable f.new }
+    ensures merged { OnOk result (MergesEntry F.FnMut
+        (f.old, map_of tree.old.value (siblings_of tree.old.arena)) (Q.key key, value)
+        (f.new, map_of tree.new.value (siblings_of tree.new.arena))) }
+    ensures unchanged { OnErr result (map_of tree.new.value (siblings_of tree.new.arena)
+        ≡ map_of tree.old.value (siblings_of tree.old.arena)) }
+    ensures only_new { OnErr result
+        (map.get (map_of tree.old.value (siblings_of tree.old.arena)) (Q.key key) ≡ None) }
 {
-    let place = arena.seek_along(trail, last, key);
-    match place.here() {
-        Some(id) if arena.nodes.value(id).is_some() => Some(id),
-        _ => None,
+    if tree.count == usize::MAX - 1 && tree.arena.find(key).is_none() {
+        trail.clear();
+        return Err(AllocError);
+    }
+    match insert_new_along(&mut tree.arena, trail, last, key, value) {
+        Ok(None) => {
+            tree.count += 1;
+            Ok(())
+        }
+        Ok(Some((id, value))) => {
+            merge_at(&mut tree.arena, id, value, f);
+            Ok(())
+        }
+        Err(_) => Err(AllocError),
     }
 }
 
@@ -140,8 +182,6 @@ impl<K: Bytes, V> Model for Merger<K, V> {
 }
 
 impl<K: Bytes, V: Drop> Merger<K, V> {
-    ghost use Rattle.patricia_core.specs.Internal.Loans.{merger_lends_entry};
-
     /// Takes a tree that is to be changed. Does not allocate.
     pub fn new(tree: Tree<K, V>) -> Self
         ensures { result ≡ tree }
@@ -167,27 +207,31 @@ impl<K: Bytes, V: Drop> Merger<K, V> {
         }
     }
 
-    /// Lends the value at a key, or returns `None` where there is none.
-    pub fn get_mut<Q: BorrowedBytes<Owned = K>>(&mut self, key: Q) -> Option<&mut V>
-        ensures* writes { sem 𝓛
-            (merger_lends_entry K.row V.row K.Bytes self.entry (Q.key key) result) }
-        ensures value { option_copied_mut result ≡ map.get self.old (Q.key key) }
+    /// Puts an entry in. Where its key has a value, the closure is called at it and the new one,
+    /// and what it leaves there stays. The error is out of memory.
+    pub fn merge<Q: BorrowedBytes<Owned = K>, F: FnMut(&mut V, V)>(
+        &mut self,
+        key: Q,
+        value: V,
+        f: &mut F,
+    ) -> Result<(), AllocError>
+        requires { F.IsAlwaysCallable f.old }
+        ensures callable { F.IsAlwaysCallable f.new }
+        ensures merged { OnOk result
+            (MergesEntry F.FnMut (f.old, self.old) (Q.key key, value) (f.new, self.new)) }
+        ensures unchanged { OnErr result (self.new ≡ self.old) }
+        ensures err_only_nonempty { OnErr result (Q.key key ≢ []) }
+        ensures only_new { OnErr result (map.get self.old (Q.key key) ≡ None) }
     {
         if key.is_empty() {
-            let tree = &mut self.tree;
-            return tree.value.as_mut();
+            merge_value(&mut self.tree.value, value, f);
+            return Ok(());
         }
         let key = KeyBytes::<K>::new(key.as_bytes());
         let last = last_key::<K>(&self.last);
-        let found = find_behind(&self.tree.arena, &mut self.trail, last, key);
+        let result = merge_behind(&mut self.tree, &mut self.trail, last, key, value, f);
         remember(&mut self.last, key.as_bytes());
-        match found {
-            Some(id) => {
-                let tree = &mut self.tree;
-                tree.arena.value_mut(id)
-            }
-            None => None,
-        }
+        result
     }
 
     /// Inserts a value and returns the old one. The error is out of memory, and has the value.

@@ -1,7 +1,7 @@
 //! Two maps compared, and one merged into the other.
-ghost use Rattle.std.specs.Prelude.{◌≡◌, ◌≢◌, [], IfOk, OnOk, OnErr, None};
+ghost use Rattle.std.specs.Prelude.{◌≡◌, ◌≢◌, [], IfOk, OnOk, OnErr};
 ghost use Rattle.std.specs.FinMap as map;
-ghost use Rattle.patricia_tree.specs.Merges.{IsMergeStopped, MergesAll, MergesEntry};
+ghost use Rattle.patricia_tree.specs.Merges.{IsMergeStopped, MergesAll};
 ghost use Rattle.patricia_walks.specs.Equality.{are_same_entries};
 
 use super::GenericPatriciaMap;
@@ -10,32 +10,6 @@ use patricia_core::tree::Merger;
 use std::alloc::AllocError;
 use std::cmp::PartialEq;
 use std::iter::{IntoIterator, Iterator};
-
-// Puts an entry in: where its key is there, the closure makes one value of the two.
-fn merge_entry<K: Bytes, V: Drop, F: FnMut(&mut V, V)>(
-    merger: &mut Merger<K, V>,
-    key: &K,
-    value: V,
-    f: &mut F,
-) -> Result<(), AllocError>
-    requires { F.IsAlwaysCallable f.old }
-    ensures callable { F.IsAlwaysCallable f.new }
-    ensures merged { OnOk result
-        (MergesEntry F.FnMut (f.old, merger.old) (K.key key.now, value) (f.new, merger.new)) }
-    ensures unchanged { OnErr result (merger.new ≡ merger.old) }
-    ensures err_only_nonempty { OnErr result (K.key key.now ≢ []) }
-    ensures only_new { OnErr result (map.get merger.old (K.key key.now) ≡ None) }
-{
-    let key = KeyBytes::of(key);
-    if let Some(there) = merger.get_mut(key) {
-        f(there, value);
-        return Ok(());
-    }
-    match merger.insert(key, value) {
-        Ok(_) => Ok(()),
-        Err(_) => Err(AllocError),
-    }
-}
 
 // Puts the entries of a map in, in key order. It stops at the first that is refused.
 fn merge_all<K: Bytes, V: Drop, F: FnMut(&mut V, V)>(
@@ -52,7 +26,7 @@ fn merge_all<K: Bytes, V: Drop, F: FnMut(&mut V, V)>(
     let mut rest = other.into_iter();
     while let Some(entry) = rest.next() {
         let (key, value) = entry?;
-        merge_entry(merger, &key, value, &mut f)?;
+        merger.merge(KeyBytes::of(&key), value, &mut f)?;
     }
     Ok(())
 }
