@@ -136,8 +136,7 @@ impl<V> NodeVec<V> {
         self.store.label_room(id.index())
     }
 
-    /// How many bytes the labels of all nodes take, or `None` where that is more than are used.
-    /// Takes time in proportion to the nodes.
+    /// How many bytes all labels take, or `None` if more than are used. Walks over all nodes.
     pub fn label_bytes(&self) -> Option<usize> {
         self.store.label_bytes()
     }
@@ -240,8 +239,7 @@ impl<V> NodeVec<V> {
         self.store.take_contents(id.index())
     }
 
-    /// Puts another label, first child and value to a node, and returns the value that was there.
-    /// Does not allocate.
+    /// Puts another label, first child and value to a node; returns its value. Does not allocate.
     pub fn replace_contents(
         &mut self,
         id: NodeId,
@@ -287,8 +285,7 @@ impl<V> NodeVec<V> {
             .push_reserved(label, value, number(child), number(sibling));
     }
 
-    /// Adds a node behind the last, whose label begins with `upper` and ends with `lower`. Does not
-    /// allocate.
+    /// Adds a last node, whose label is `upper` and then `lower`. Does not allocate.
     pub fn push_joined(
         &mut self,
         upper: &[u8],
@@ -413,8 +410,7 @@ impl<V: Drop> NodeVec<V> {
             .push(label, value, number(child), number(sibling))
     }
 
-    /// Adds a node behind the last, whose first child is the node that is added next, if it has
-    /// one. Makes room as `push` does.
+    /// Adds a last node, whose first child, if any, is added next. Makes room as `push` does.
     pub fn push_in_order(
         &mut self,
         label: &[u8],
@@ -491,8 +487,7 @@ impl<V: Drop> NodeVec<V> {
 }
 
 impl<V: Clone> NodeVec<V> {
-    /// The same nodes in vectors of their own, each of which is reserved once. Asks for nothing
-    /// where there is no node.
+    /// The same nodes in vectors of their own, each reserved once, where there is any node.
     pub fn try_clone(&self, alloc: Global) -> Result<NodeVec<V>, AllocError>
         requires { (i : ℕ) (n : Node V) → slice_get self.now.items i ≡ Some n
             → IfSome n.value (CloneIsSame V.is_clone) }
