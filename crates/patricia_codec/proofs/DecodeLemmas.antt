@@ -1,6 +1,6 @@
 -- Reading and building, step by step.
-use Rattle.std.proofs.Common.{◌≡◌, ◌≢◌, ◌⊎◌, inl, inr, ℕ, zero, suc, ◌+◌, ◌<◌, ◌≤◌, Bool, true}
-use Rattle.std.proofs.Common.{false, List, [], ◌∷◌, ◌++◌, length, Option, Some, None, refl, sym, ap}
+use Rattle.std.proofs.Common.{◌≡◌, ◌≢◌, ◌⊎◌, inl, inr, ℕ, zero, suc, ◌+◌, ◌-◌, ◌<◌, ◌≤◌, Bool, true}
+use Rattle.std.proofs.Common.{false, List, [], ◌∷◌, ◌++◌, drop, length, Option, Some, None, refl, sym, ap}
 use Rattle.std.proofs.Common.{subst, ◌∙◌, arith, append-nil, append_assoc, length-append}
 use Rattle.std.specs.Prelude.{is_some, reverse, IsSome}
 use Rattle.std.specs.Option.{option_to_list}
@@ -35,6 +35,15 @@ module _ (item : List ℕ → Type 0) where
     due_is = ap reverse start.due;
     after = All-cons (IsAfter item) (record { level = 0; after = None }) [] (λ l none. absurd (cc)) (All-nil (IsAfter item));
   }
+
+  -- fewer bytes are left where a reader has read on
+  pub fewer_left : (w n : ℕ) (p q : Reader) (before : List Record) (due : List Due)
+      → q.bytes.now ≡ p.bytes.now → p.offset < q.offset → IsReading item w n q before due
+      → length q.bytes.now - q.offset < length p.bytes.now - p.offset
+  fewer_left w n p q before due bytes further reading =
+      let whole = ap length reading.reads.joined in
+      let parts = length-append reading.reads.read (drop q.offset q.bytes.now) in
+      omega (arith, further, reading.reads.ends, whole, parts, ap length bytes)
 
   -- a new builder has built nothing, and the root is due
   pub new_built : {V : Type 0} (b : Builder V) → IsNew b

@@ -1,5 +1,6 @@
 //! Nodes, laid one after the other while records are read.
-ghost use Rattle.std.specs.Prelude.{◌≡◌, ◌++◌, ◌∷◌, ◌≤◌, ◌<◌, [], None, OnOk, is_some, length};
+ghost use Rattle.std.specs.Prelude.{◌≡◌, ◌++◌, ◌∷◌, ◌≤◌, ◌<◌, [], None, OnOk, IfOk};
+ghost use Rattle.std.specs.Prelude.{is_some, length};
 ghost use Rattle.patricia_codec.specs.Internal.Builds.{IsNew, Lays, CanLink, HasLinked, Opens};
 ghost use Rattle.patricia_codec.specs.Internal.Builds.{ClosesAs, CanAdd, Prepares, AddsRoot};
 ghost use Rattle.patricia_codec.specs.Internal.Builds.{AddsRecord};
@@ -39,18 +40,22 @@ pub struct Builder<V> {
 }
 
 impl<V: Drop> Builder<V> {
-    /// Nothing is read. Does not allocate.
-    pub fn new(alloc: Global) -> Self
-        ensures { IsNew result }
+    /// Nothing is read. There is room for so many nodes, and for so many bytes of their labels. The
+    /// error is out of memory for them.
+    pub fn new(alloc: Global, nodes: usize, bytes: usize) -> Result<Self, AllocError>
+        ensures new { IfOk result IsNew }
+        ensures nodes { IfOk result (λ b. nodes ≤ b.nodes.capacity) }
+        ensures bytes { IfOk result (λ b. bytes ≤ b.nodes.room) }
     {
-        Builder {
+        let nodes = NodeVec::with_capacity(alloc, nodes, bytes)?;
+        Ok(Builder {
             value: None,
             root: Link::none(),
-            nodes: NodeVec::new(alloc),
+            nodes,
             label: Vec::new(alloc),
             waiting: Vec::new(alloc),
             next: Next::Root,
-        }
+        })
     }
 
     // Lays the next node, which has the label so far.

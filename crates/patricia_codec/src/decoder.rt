@@ -27,6 +27,20 @@ fn others<V>(given: usize, value: &Option<V>) -> usize
     }
 }
 
+// How many nodes, and bytes of labels, there is room for before the first record is read. Seldom do
+// two values have more than three nodes. Labels are what is left beside the heads of records, at
+// least one for each value. Many values ask for no more than few bytes do.
+fn room_for<W: Width>(bytes: &[u8], given: usize) -> (usize, usize)
+    ensures nodes { result.0 ≤ length bytes.now }
+    ensures labels { result.1 ≤ length bytes.now }
+{
+    let head = W::head();
+    let records = bytes.len() / head;
+    let nodes = given.saturating_add(given / 2).min(records);
+    let heads = head.saturating_mul(given.max(1));
+    (nodes, bytes.len().saturating_sub(heads))
+}
+
 /// Reads a tree from its bytes and its values. Where they are refused the values are dropped.
 pub fn decode<K: Bytes, W: Width, V: Drop>(
     alloc: Global,
@@ -43,7 +57,8 @@ pub fn decode<K: Bytes, W: Width, V: Drop>(
     let given = values.len();
     let mut values = values.into_iter();
     let mut reader = Reader::new(alloc, bytes)?;
-    let mut builder = Builder::new(alloc);
+    let (nodes, labels) = room_for::<W>(bytes, given);
+    let mut builder = Builder::new(alloc, nodes, labels)?;
     while let Some(record) = reader.next::<K, W>(values.len())? {
         let value = if record.value { values.next() } else { None };
         builder.add::<K>(&record, value)?;

@@ -1,5 +1,4 @@
 use Rattle.std.proofs.Common.{◌++◌, [], ◌∷◌, None, length, refl, sym, arith, ap, subst, ◌∙◌}
-use Rattle.std.proofs.lemmas.Grind.{common_steps}
 use Rattle.std.specs.Option.{option_to_list}
 use Rattle.std.specs.Vec.Iter.{into_iter_items, into_iter_len}
 use Rattle.patricia_wire.specs.Records.{Record}
@@ -10,6 +9,7 @@ use Rattle.patricia_codec.proofs.CheckLemmas.{handed_on}
 use Rattle.patricia_codec.proofs.DecodeLemmas.{read_all, tree_of_all, decoded, Takes, takes_some}
 use Rattle.patricia_codec.proofs.DecodeLemmas.{takes_none, some_left, started, new_built, can_add}
 use Rattle.patricia_codec.proofs.DecodeLemmas.{suited, counted, split_on, marks_on, left_on}
+use Rattle.patricia_codec.proofs.DecodeLemmas.{fewer_left}
 use Rattle.patricia_codec.proofs.FewEntries.{few_values, nodes_count}
 use Rattle.patricia_codec.proofs.decoder.decode.Goals as goal
 use Rattle.patricia_codec.proofs.decoder.decode.Goals.{then-record, else-record}
@@ -20,7 +20,7 @@ loop-builder-init g c = record {
   due = (record { level = 0; after = None }) ∷ [];
   taken = [];
   reading = started g.K.Bytes.item g.W.Width.width _ c.in_ok-reader.reader c.in_ok-reader.ensures.start;
-  built = new_built g.K.Bytes.item c.new-builder.result c.new-builder.ensures;
+  built = new_built g.K.Bytes.item c.in_ok-builder.builder c.in_ok-builder.ensures.new;
   split = refl;
   left = c.into_iter-values.ensures.len ∙ c.args.values.ok.0 ∙ ap length (sym c.into_iter-values.ensures.rest);
   marks = refl;
@@ -177,4 +177,10 @@ returns-clause-means g c =
     done.means
 
 pub loop-builder-smaller : goal.loop-builder-smaller
-loop-builder-smaller g c = grind (arith, common_steps)
+loop-builder-smaller g c =
+    let inv = c.loop-builder.invariant in
+    let count = counted _ inv.taken _ inv.before c.len.result inv.split inv.marks (c.len.ensures ∙ inv.left) in
+    let goes = rw c.in-Some.is at c.in_ok-record.ensures.ok in
+    let on = goes.reading _ inv.before inv.due inv.reading count in
+    fewer_left g.K.Bytes.item g.W.Width.width _ c.loop-builder.reader c.next.new.self _ _
+    (ap (λ b. b.now) c.in_ok-record.ensures.bytes) goes.further on.4
