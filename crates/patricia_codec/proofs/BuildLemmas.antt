@@ -10,21 +10,20 @@ use Rattle.std.proofs.lemmas.List.{reverse-append}
 use Rattle.std.proofs.lemmas.List.Elements.{All-nil, All-cons}
 use Rattle.patricia_model.specs.Siblings.{Siblings, end, node, IsBeforeSiblings}
 use Rattle.patricia_store.specs.Internal.Nodes.{Node}
-use Rattle.patricia_nodes.specs.Internal.NodeVecs.{next_if}
 use Rattle.patricia_nodes.specs.Internal.Plans.{linked}
 use Rattle.patricia_wire.specs.Records.{Record}
 use Rattle.patricia_wire.specs.Forests.{IsInner}
 use Rattle.patricia_wire.specs.Internal.Readings.{Due, due_where, due_behind}
 use Rattle.patricia_wire.specs.Internal.WrittenSiblings.{has_node, over, joined}
-use Rattle.patricia_codec.specs.declared.builder.Builder.{Builder}
 use Rattle.patricia_codec.specs.declared.builder.Next.{Next}
 use Rattle.patricia_codec.specs.declared.builder.Next.TheVariants.{Root, Below, Within, Beside}
 use Rattle.patricia_codec.specs.Internal.Growing.{Gap, Unlaid, IsOpenBeside, IsOpenAt, IsOpenWithin}
+use Rattle.patricia_codec.specs.Internal.Builds.{Building}
 use Rattle.patricia_codec.specs.Internal.Builds.{number_if, gap_if, ids, dues, Fall}
-use Rattle.patricia_codec.specs.Internal.Builds.{count_of, Lays, HasLinked, Opens, ClosesAs}
-use Rattle.patricia_codec.specs.Internal.Builds.{Prepares, Suits, Wait, IsBuiltAs, IsBuilt}
-use Rattle.patricia_codec.specs.Internal.Builds.{AddsRecord}
-use Rattle.patricia_codec.proofs.GrowingLemmas.{AreWithin, not_at, laid_node, opened, joined_in}
+use Rattle.patricia_codec.specs.Internal.Builds.{count_of}
+use Rattle.patricia_codec.specs.Internal.Builds.{Suits, Wait, IsBuiltAs, IsBuilt}
+use Rattle.patricia_codec.proofs.BuildSteps.{Lays, HasLinked, Opens, ClosesAs, Prepares, BuildsRecord}
+use Rattle.patricia_codec.proofs.GrowingLemmas.{next_if, AreWithin, not_at, laid_node, opened, joined_in}
 use Rattle.patricia_codec.proofs.GrowingLemmas.{laid_above, laid_alone, linked_beside}
 
 -- what follows of an answer that is no error
@@ -131,11 +130,11 @@ module _ (item : List ℕ → Type 0) {V : Type 0} where
       (subst (λ v. IsOpenWithin item nodes root v u gaps R vs) (sym g) h))
 
   -- a node is open whose label is the label so far
-  record IsOpened (b : Builder V) (x : Option V) (child : Bool) (R : List Record) (due : List Due) (vs : List V) : Type 0 where
+  record IsOpened (b : Building V) (x : Option V) (child : Bool) (R : List Record) (due : List Due) (vs : List V) : Type 0 where
     node : Unlaid V
     gaps : List Gap
-    goes : IsOpenWithin item b.nodes.items b.root b.value node gaps R vs
-    label : node.label ≡ b.label.items
+    goes : IsOpenWithin item b.nodes b.root b.value node gaps R vs
+    label : node.label ≡ b.label
     value : node.value ≡ x
     child_is : node.child ≡ child
     wait : Wait b (count_of b)
@@ -145,18 +144,18 @@ module _ (item : List ℕ → Type 0) {V : Type 0} where
     some : R ≢ []
 
   -- what is laid behind the nodes is the open node, with its label, value and child
-  laid_is : (b new : Builder V) (u : Unlaid V) (x : Option V) (child : Bool)
-      → u.label ≡ b.label.items → u.value ≡ x → u.child ≡ child → Lays b x child new
-      → new.nodes.items ≡ b.nodes.items ++ laid_node item b.nodes.items b.root b.value u ∷ []
-  laid_is b new u x child l v c lays = lays.nodes ∙ (λ i. b.nodes.items ++ linked (sym l i) (sym v i) (next_if (sym c i) (count_of b)) None ∷ [])
+  laid_is : (b new : Building V) (u : Unlaid V) (x : Option V) (child : Bool)
+      → u.label ≡ b.label → u.value ≡ x → u.child ≡ child → Lays b x child new
+      → new.nodes ≡ b.nodes ++ laid_node item b.nodes b.root b.value u ∷ []
+  laid_is b new u x child l v c lays = lays.nodes ∙ (λ i. b.nodes ++ linked (sym l i) (sym v i) (next_if (sym c i) (count_of b)) None ∷ [])
 
   -- there is one node more
-  laid_count : (b new : Builder V) (x : Option V) (child : Bool) → Lays b x child new
+  laid_count : (b new : Building V) (x : Option V) (child : Bool) → Lays b x child new
       → count_of new ≡ count_of b + 1
-  laid_count b new x child lays = ap length lays.nodes ∙ length-append b.nodes.items _
+  laid_count b new x child lays = ap length lays.nodes ∙ length-append b.nodes _
 
   -- the node that is laid waits before the others, where it has a sibling to come
-  laid_wait : (b new : Builder V) (u : Unlaid V) (x : Option V) (child : Bool) (gaps : List Gap)
+  laid_wait : (b new : Building V) (u : Unlaid V) (x : Option V) (child : Bool) (gaps : List Gap)
       → Lays b x child new
       → Wait b (count_of b) (gap_if u.sibling u.level u.own_label (count_of b) ++ gaps) gaps
       → Wait new (count_of new) (gap_if u.sibling u.level u.own_label (count_of b) ++ gaps)
@@ -169,11 +168,11 @@ module _ (item : List ℕ → Type 0) {V : Type 0} where
   }
 
   -- it is laid, or left to take in its child
-  closed : (b new : Builder V) (x : Option V) (child : Bool) (R : List Record) (due : List Due)
+  closed : (b new : Building V) (x : Option V) (child : Bool) (R : List Record) (due : List Due)
       (vs : List V) → IsOpened b x child R due vs → ClosesAs b x child new
       → IsBuilt item new R due vs
   closed b new None true R due vs o e =
-      subst (λ (n : Builder V). IsBuilt item n R due vs) (sym e) (record {
+      subst (λ (n : Building V). IsBuilt item n R due vs) (sym e) (record {
         node = o.node;
         gaps = o.gaps;
         goes = o.goes;
@@ -188,10 +187,10 @@ module _ (item : List ℕ → Type 0) {V : Type 0} where
       subst (λ n. IsBuiltAs item n new R due vs) (sym next) (record {
         level = o.node.below;
         gaps = gap_if o.node.sibling o.node.level o.node.own_label (count_of b) ++ o.gaps;
-        goes = at_same _ new.nodes.items _ new.root _ new.value _ _ _ _ _
+        goes = at_same _ new.nodes _ new.root _ new.value _ _ _ _ _
             (laid_is b new o.node (Some x) true o.label o.value o.child_is lays) lays.keeps.root
             lays.keeps.value
-            (laid_above item b.nodes.items b.root b.value o.node o.gaps R vs o.goes (within (count_of b) o.gaps o.wait.fall) o.child_is (λ w. Unit {0})
+            (laid_above item b.nodes b.root b.value o.node o.gaps R vs o.goes (within (count_of b) o.gaps o.wait.fall) o.child_is (λ w. Unit {0})
             (λ c t s. subst (λ v. over o.node.label v (joined c) s ≡ node o.node.label v (joined c) s) (sym o.value) refl));
         wait = laid_wait b new o.node (Some x) true o.gaps lays o.wait;
         due_is = o.due_is;
@@ -201,10 +200,10 @@ module _ (item : List ℕ → Type 0) {V : Type 0} where
   closed b new None false R due vs o (lays, next) =
       subst (λ n. IsBuiltAs item n new R due vs) (sym next) (record {
         gaps = gap_if o.node.sibling o.node.level o.node.own_label (count_of b) ++ o.gaps;
-        goes = beside_same _ new.nodes.items _ new.root _ new.value _ _ _
+        goes = beside_same _ new.nodes _ new.root _ new.value _ _ _
             (laid_is b new o.node None false o.label o.value o.child_is lays) lays.keeps.root
             lays.keeps.value
-            (laid_alone item b.nodes.items b.root b.value o.node o.gaps R vs o.goes (within (count_of b) o.gaps o.wait.fall) o.child_is);
+            (laid_alone item b.nodes b.root b.value o.node o.gaps R vs o.goes (within (count_of b) o.gaps o.wait.fall) o.child_is);
         wait = laid_wait b new o.node None false o.gaps lays o.wait;
         due_is = o.due_is;
         label = lays.label;
@@ -213,10 +212,10 @@ module _ (item : List ℕ → Type 0) {V : Type 0} where
   closed b new (Some x) false R due vs o (lays, next) =
       subst (λ n. IsBuiltAs item n new R due vs) (sym next) (record {
         gaps = gap_if o.node.sibling o.node.level o.node.own_label (count_of b) ++ o.gaps;
-        goes = beside_same _ new.nodes.items _ new.root _ new.value _ _ _
+        goes = beside_same _ new.nodes _ new.root _ new.value _ _ _
             (laid_is b new o.node (Some x) false o.label o.value o.child_is lays) lays.keeps.root
             lays.keeps.value
-            (laid_alone item b.nodes.items b.root b.value o.node o.gaps R vs o.goes (within (count_of b) o.gaps o.wait.fall) o.child_is);
+            (laid_alone item b.nodes b.root b.value o.node o.gaps R vs o.goes (within (count_of b) o.gaps o.wait.fall) o.child_is);
         wait = laid_wait b new o.node (Some x) false o.gaps lays o.wait;
         due_is = o.due_is;
         label = lays.label;
@@ -224,30 +223,30 @@ module _ (item : List ℕ → Type 0) {V : Type 0} where
       })
 
   -- a record is opened where its siblings are due
-  opens_at : (b new : Builder V) (Allowed : Siblings V → Type 0) (level : ℕ) (gaps : List Gap)
+  opens_at : (b new : Building V) (Allowed : Siblings V → Type 0) (level : ℕ) (gaps : List Gap)
       (R : List Record) (vs : List V)
-      → IsOpenAt item b.nodes.items b.root b.value Allowed level gaps R vs
-      → Wait b (count_of b) gaps gaps → b.label.items ≡ [] → (r : Record) (x : Option V)
+      → IsOpenAt item b.nodes b.root b.value Allowed level gaps R vs
+      → Wait b (count_of b) gaps gaps → b.label ≡ [] → (r : Record) (x : Option V)
       → IsInner item level r → is_some x ≡ r.value
       → ((c s : Siblings V) → has_node s ≡ r.sibling → Allowed (node r.label x c s)) → Opens b r new
       → IsOpened new x r.child (R ++ (r ∷ [])) (due_behind r ++ dues gaps) (vs ++ option_to_list x)
   opens_at b new Allowed level gaps R vs goes wait none r x inner vm allowed o =
-      let items = ap (λ n. n.items) o.nodes in
+      let items = o.nodes in
       let count : count_of new ≡ count_of b = ap length items in
       let u : Unlaid V = record { label = r.label; value = x; child = r.child; sibling = r.sibling; below = level + 1; level = level; own_label = r.label } in
       record {
         node = u;
         gaps = gaps;
-        goes = within_same _ new.nodes.items _ new.root _ new.value u gaps _ _ items o.keeps.root
+        goes = within_same _ new.nodes _ new.root _ new.value u gaps _ _ items o.keeps.root
             o.keeps.value
-            (opened item b.nodes.items b.root b.value Allowed level gaps R vs goes r x inner vm
+            (opened item b.nodes b.root b.value Allowed level gaps R vs goes r x inner vm
             allowed);
         label = sym (o.label ∙ ap (λ l. l ++ r.label) none);
         value = refl;
         child_is = refl;
         wait = record {
           ids_are = ap (λ n. ids (gap_if r.sibling level r.label n ++ gaps)) count ∙ ids_next
-              r.sibling level r.label (count_of b) gaps b.waiting.items wait.ids_are ∙ ap reverse
+              r.sibling level r.label (count_of b) gaps b.waiting wait.ids_are ∙ ap reverse
               (sym o.waiting);
           fall = subst (λ n. Fall n gaps) (sym count) wait.fall;
         };
@@ -256,13 +255,13 @@ module _ (item : List ℕ → Type 0) {V : Type 0} where
       }
 
   -- a record is joined to the open node above it
-  joins_in : (b new : Builder V) (due : Due) (waiting : List Due) (R : List Record) (vs : List V)
+  joins_in : (b new : Building V) (due : Due) (waiting : List Due) (R : List Record) (vs : List V)
       → IsBuiltAs item Within b R (due ∷ waiting) vs → (r : Record) (x : Option V)
       → Suits item R due r → is_some x ≡ r.value → r.sibling ≡ false → Opens b r new
       → IsOpened new x r.child (R ++ (r ∷ [])) (due_behind r ++ waiting) (vs ++ option_to_list x)
   joins_in b new due waiting R vs built r x suits vm alone o =
       let u = built.node in
-      let items = ap (λ n. n.items) o.nodes in
+      let items = o.nodes in
       let count : count_of new ≡ count_of b = ap length items in
       let head : due ≡ record { level = u.below; after = None } = (let e = built.due_is in cc) in
       let tails : waiting ≡ dues (gap_if u.sibling u.level u.own_label (count_of b) ++ built.gaps) = (let e = built.due_is in cc) in
@@ -279,9 +278,9 @@ module _ (item : List ℕ → Type 0) {V : Type 0} where
       record {
         node = joined;
         gaps = built.gaps;
-        goes = within_same _ new.nodes.items _ new.root _ new.value joined built.gaps _ _ items
+        goes = within_same _ new.nodes _ new.root _ new.value joined built.gaps _ _ items
             o.keeps.root o.keeps.value
-            (joined_in item b.nodes.items b.root b.value u built.gaps R vs built.goes built.value
+            (joined_in item b.nodes b.root b.value u built.gaps R vs built.goes built.value
             built.child r x inner vm alone);
         label = ap (λ l. l ++ r.label) built.label ∙ sym o.label;
         value = refl;
@@ -289,8 +288,8 @@ module _ (item : List ℕ → Type 0) {V : Type 0} where
         wait = record {
           ids_are = ap (λ n. ids (gap_if u.sibling u.level u.own_label n ++ built.gaps)) count ∙
               built.wait.ids_are ∙ ap reverse
-              (sym (o.waiting ∙ ap (λ s. b.waiting.items ++ number_if s (count_of b)) alone ∙
-              append-nil b.waiting.items));
+              (sym (o.waiting ∙ ap (λ s. b.waiting ++ number_if s (count_of b)) alone ∙
+              append-nil b.waiting));
           fall = subst (λ n. Fall n built.gaps) (sym count) built.wait.fall;
         };
         due_is =
@@ -305,7 +304,7 @@ module _ (item : List ℕ → Type 0) {V : Type 0} where
 
   -- the open node is laid, and a record with a sibling is opened below it
   opens_over :
-      (b mid new : Builder V) (due : Due) (waiting : List Due) (R : List Record) (vs : List V)
+      (b mid new : Building V) (due : Due) (waiting : List Due) (R : List Record) (vs : List V)
       → IsBuiltAs item Within b R (due ∷ waiting) vs → (r : Record) (x : Option V)
       → Suits item R due r → is_some x ≡ r.value → r.sibling ≡ true → Lays b None true mid
       → Opens mid r new
@@ -316,10 +315,10 @@ module _ (item : List ℕ → Type 0) {V : Type 0} where
       let head : due ≡ record { level = u.below; after = None } = (let e = built.due_is in cc) in
       let tails : waiting ≡ dues gaps = (let e = built.due_is in cc) in
       let inner = subst (λ (d : Due). IsInner item d.level r) head (suits.inner built.some) in
-      let goes = at_same _ mid.nodes.items _ mid.root _ mid.value HasTwo u.below gaps R vs
+      let goes = at_same _ mid.nodes _ mid.root _ mid.value HasTwo u.below gaps R vs
       (laid_is b mid u None true built.label built.value built.child lays) lays.keeps.root
       lays.keeps.value
-      (laid_above item b.nodes.items b.root b.value u built.gaps R vs built.goes (within (count_of b) built.gaps built.wait.fall) built.child HasTwo
+      (laid_above item b.nodes b.root b.value u built.gaps R vs built.goes (within (count_of b) built.gaps built.wait.fall) built.child HasTwo
       (λ c two s. subst (λ v. over u.label v (joined c) s ≡ node u.label v (joined c) s) (sym built.value) (kept_two u.label c s two))) in
       let wait = laid_wait b mid u None true built.gaps lays (record { ids_are = built.wait.ids_are; fall = built.wait.fall }) in
       subst (λ w. IsOpened new x r.child (R ++ (r ∷ [])) (due_behind r ++ w) (vs ++ option_to_list x)) (sym tails)
@@ -327,54 +326,54 @@ module _ (item : List ℕ → Type 0) {V : Type 0} where
 
   -- the node that waits last is linked, and a record is opened beside it
   opens_beside :
-      (b mid new : Builder V) (due : Due) (waiting : List Due) (R : List Record) (vs : List V)
+      (b mid new : Building V) (due : Due) (waiting : List Due) (R : List Record) (vs : List V)
       → IsBuiltAs item Beside b R (due ∷ waiting) vs → (r : Record) (x : Option V)
       → Suits item R due r → is_some x ≡ r.value → HasLinked b mid → Opens mid r new
       → IsOpened new x r.child (R ++ (r ∷ [])) (due_behind r ++ waiting) (vs ++ option_to_list x)
   opens_beside b mid new due waiting R vs built r x suits vm link o = by built.gaps built.due_is built.goes built.wait
     where
       by : (gaps : List Gap) → due ∷ waiting ≡ dues gaps
-          → IsOpenBeside item b.nodes.items b.root b.value gaps R vs → Wait b (count_of b) gaps gaps
+          → IsOpenBeside item b.nodes b.root b.value gaps R vs → Wait b (count_of b) gaps gaps
           → IsOpened new x r.child (R ++ (r ∷ [])) (due_behind r ++ waiting)
           (vs ++ option_to_list x)
       by [] e goes wait = absurd (cc)
       by (g ∷ gaps) e goes wait =
           let head : due ≡ record { level = g.level; after = Some g.label } = cc in
           let tails : waiting ≡ dues gaps = cc in
-          let stack : g.id ∷ ids gaps ≡ link.id ∷ reverse mid.waiting.items = wait.ids_are ∙ ap
-          reverse link.waiting ∙ reverse-append mid.waiting.items (link.id ∷ []) in
+          let stack : g.id ∷ ids gaps ≡ link.id ∷ reverse mid.waiting = wait.ids_are ∙ ap
+          reverse link.waiting ∙ reverse-append mid.waiting (link.id ∷ []) in
           let is : g.id ≡ link.id = cc in
-          let others : ids gaps ≡ reverse mid.waiting.items = cc in
-          let there = slice_get-get_or b.nodes.items g.id (linked [] None None None) (wait.fall.0) in
-          let n = get_or b.nodes.items g.id (linked [] None None None) in
+          let others : ids gaps ≡ reverse mid.waiting = cc in
+          let there = slice_get-get_or b.nodes g.id (linked [] None None None) (wait.fall.0) in
+          let n = get_or b.nodes g.id (linked [] None None None) in
           let now = linked n.label n.value n.child (Some (count_of b)) in
-          let nodes : mid.nodes.items ≡ set b.nodes.items g.id now = link.nodes n
-          (ap (slice_get b.nodes.items) (sym is) ∙ there) ∙ ap
-          (λ k. set b.nodes.items k now) (sym is) in
-          let count : count_of mid ≡ count_of b = ap length nodes ∙ length-set b.nodes.items g.id now in
+          let nodes : mid.nodes ≡ set b.nodes g.id now = link.nodes n
+          (ap (slice_get b.nodes) (sym is) ∙ there) ∙ ap
+          (λ k. set b.nodes k now) (sym is) in
+          let count : count_of mid ≡ count_of b = ap length nodes ∙ length-set b.nodes g.id now in
           let inner = subst (λ (d : Due). IsInner item d.level r) head (suits.inner built.some) in
-          let goes_at = at_same _ mid.nodes.items _ mid.root _ mid.value
+          let goes_at = at_same _ mid.nodes _ mid.root _ mid.value
           (IsBeforeSiblings item g.label) g.level gaps R vs nodes link.keeps.root
           link.keeps.value
-          (linked_beside item b.nodes.items b.root b.value g gaps R vs goes n there (not_at g.id gaps (within g.id gaps wait.fall.1))) in
+          (linked_beside item b.nodes b.root b.value g gaps R vs goes n there (not_at g.id gaps (within g.id gaps wait.fall.1))) in
           let wait_mid : Wait mid (count_of mid) gaps gaps = record {
             ids_are = others;
             fall = subst (λ k. Fall k gaps) (sym count)
                 (fall_up g.id (count_of b) gaps (omega (arith, wait.fall.0)) wait.fall.1);
           } in
           let opened = opens_at mid new (IsBeforeSiblings item g.label) g.level gaps R vs goes_at
-          wait_mid (ap (λ l. l.items) link.label ∙ built.label) r x inner vm
+          wait_mid (link.label ∙ built.label) r x inner vm
           (λ c s e. suits.order g.label (ap (λ (d : Due). d.after) head)) o in
           subst (λ w. IsOpened new x r.child (R ++ (r ∷ [])) (due_behind r ++ w) (vs ++ option_to_list x)) (sym tails) opened
 
   -- a record that is not the root is added
-  pub added : (old mid open_now new : Builder V) (r : Record) (x : Option V) → (old.next ≡ Root → ⊥)
+  pub added : (old mid open_now new : Building V) (r : Record) (x : Option V) → (old.next ≡ Root → ⊥)
       → Prepares old.next old r.sibling mid → Opens mid r open_now → ClosesAs open_now x r.child new
-      → AddsRecord item old r x new
+      → BuildsRecord item old r x new
   added old mid open_now new r x inner prepared o c R due waiting vs built suits vm = closed open_now new x r.child _ _ _ (by old.next inner prepared built) c
     where
       at : mid ≡ old → Opens mid r open_now → Opens old r open_now
-      at e = subst (λ (b : Builder V). Opens b r open_now) e
+      at e = subst (λ (b : Building V). Opens b r open_now) e
 
       by : (next : Next) → (next ≡ Root → ⊥) → Prepares next old r.sibling mid
           → IsBuiltAs item next old R (due ∷ waiting) vs

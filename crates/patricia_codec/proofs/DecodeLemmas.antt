@@ -8,7 +8,9 @@ use Rattle.std.proofs.lemmas.List.{reverse-append, reverse-reverse, nil_from_len
 use Rattle.std.proofs.lemmas.List.Elements.{All-nil, All-cons}
 use Rattle.patricia_keys.specs.Keys.{IsKeyKind}
 use Rattle.patricia_nodes.specs.declared.arena.NodeArena.{NodeArena}
-use Rattle.patricia_nodes.specs.Internal.Plans.{below}
+use Rattle.patricia_store.specs.Internal.Nodes.{Nodes}
+use Rattle.patricia_store.specs.Internal.Renumbering.{moved}
+use Rattle.patricia_nodes.specs.Internal.Plans.{Plan, below, first, siblings_in, IsSound}
 use Rattle.patricia_wire.specs.Records.{Record, bit_if}
 use Rattle.patricia_wire.specs.Forests.{Root}
 use Rattle.patricia_wire.specs.Faults.{value_marks}
@@ -19,10 +21,14 @@ use Rattle.patricia_wire.proofs.ReadingsFaults.{marks_more}
 use Rattle.patricia_codec.specs.declared.builder.Builder.{Builder}
 use Rattle.patricia_codec.specs.declared.reader.Reader.{Reader}
 use Rattle.patricia_codec.specs.Internal.Growing.{Gap, IsGrown}
-use Rattle.patricia_codec.specs.Internal.Builds.{ids, dues, Fall, IsNew, CanAdd, CanLink, Suits}
+use Rattle.patricia_codec.specs.Internal.Builds.{Building}
+use Rattle.patricia_codec.specs.Internal.Builds.{ids, dues, Fall, Suits}
 use Rattle.patricia_codec.specs.Internal.Builds.{IsBuiltAs, IsBuilt}
 use Rattle.patricia_codec.specs.Internal.Steps.{IsReaderStart, IsAccepted, IsReading, ReachesEnd}
-use Rattle.patricia_codec.proofs.EndLemmas.{grown, grown_tree, IsDone, done}
+use Rattle.patricia_codec.specs.Internal.Placing.{IsPlaced, StandsFor, LinksEmpty, next_place}
+use Rattle.patricia_codec.proofs.BuildSteps.{CanAdd, CanLink}
+use Rattle.patricia_codec.proofs.EndLemmas.{grown, grown_tree, IsDone, done, beside_last}
+use Rattle.patricia_codec.proofs.PlacedTrees.{sound_at}
 use Rattle.patricia_codec.proofs.ReaderLemmas.{spelled_all}
 
 module _ (item : List ℕ → Type 0) where
@@ -45,26 +51,21 @@ module _ (item : List ℕ → Type 0) where
       let parts = length-append reading.reads.read (drop q.offset q.bytes.now) in
       omega (arith, further, reading.reads.ends, whole, parts, ap length bytes)
 
-  -- a new builder has built nothing, and the root is due
-  pub new_built : {V : Type 0} (b : Builder V) → IsNew b
-      → IsBuilt item b [] ((record { level = 0; after = None }) ∷ []) []
-  new_built b new = subst (λ n. IsBuiltAs item n b [] ((record { level = 0; after = None }) ∷ []) []) (sym new.next) (refl, refl, refl, new)
-
   -- where a record is due beside a node, this node waits
   pub can_add :
-      {V : Type 0} (b : Builder V) (R : List Record) (due : Due) (waiting : List Due) (vs : List V)
+      {V : Type 0} (b : Building V) (R : List Record) (due : Due) (waiting : List Due) (vs : List V)
       → IsBuilt item b R (due ∷ waiting) vs → CanAdd b
   can_add b R due waiting vs built beside =
       (let s = subst (λ n. IsBuiltAs item n b R (due ∷ waiting) vs) beside built in by s.gaps
       s.due_is s.wait.ids_are s.wait.fall)
     where
-      by : (gaps : List Gap) → due ∷ waiting ≡ dues gaps → ids gaps ≡ reverse b.waiting.items
-          → Fall (length b.nodes.items) gaps → CanLink b
+      by : (gaps : List Gap) → due ∷ waiting ≡ dues gaps → ids gaps ≡ reverse b.waiting
+          → Fall (length b.nodes) gaps → CanLink b
       by [] e same fall = absurd (cc)
       by (g ∷ gaps) e same fall = record {
         others = reverse (ids gaps);
         id = g.id;
-        waiting = sym (reverse-reverse b.waiting.items) ∙ ap reverse (sym same) ∙ reverse-append (g.id ∷ []) (ids gaps);
+        waiting = sym (reverse-reverse b.waiting) ∙ ap reverse (sym same) ∙ reverse-append (g.id ∷ []) (ids gaps);
         within = fall.0;
       }
 
@@ -171,29 +172,50 @@ all_taken all taken rest len split is z = split ∙ ap (λ l. taken ++ l) (nil_f
 -- records are read and built with these values, and nothing more is due
 module _ (item : List ℕ → Type 0) (w : ℕ) {V : Type 0} (b : Builder V) (p q : Reader) (n : ℕ)
     (R : List Record) (due : List Due) (taken : List V) (reading : IsReading item w n p R due)
-    (built : IsBuilt item b R due taken) (ends : ReachesEnd item w p q) where
+    (placed : IsPlaced item b R due taken) (ends : ReachesEnd item w p q) where
   -- no record is due behind those that were read
   pub read_all : IsReading item w n q R []
   read_all = let on = ends n R due reading in on.1
 
-  -- the nodes stand for a tree of these records and values, in which each number stands once
-  grown_all : IsGrown item b.nodes.items b.root b.value R taken (below (length b.nodes.items))
-      (length b.nodes.items)
-  grown_all = let on = ends n R due reading in grown item b R taken (subst (λ l. IsBuilt item b R l taken) on.0 built)
+  abbrev a : Building V
+  a = placed.ordered
+
+  built_all : IsBuilt item a R [] taken
+  built_all = let on = ends n R due reading in subst (λ l. IsBuilt item a R l taken) on.0 placed.built
+
+  -- the nodes in the order of keys stand for a tree of these records and values, in which each
+  -- number stands once
+  grown_all : IsGrown item a.nodes a.root a.value R taken (below (length a.nodes)) (length a.nodes)
+  grown_all = grown item a R taken built_all
 
   -- they are a whole tree
   pub tree_of_all : (E : List (List ℕ)) × Root item R E
-  tree_of_all = (_, grown_tree item b.nodes.items b.root b.value R taken _ _ grown_all)
+  tree_of_all = (_, grown_tree item a.nodes a.root a.value R taken _ _ grown_all)
 
   -- where neither bytes nor values are left, the bytes and the values are decoded
   pub decoded : (kind : IsKeyKind item) (bytes : List ℕ) → q.bytes.now ≡ bytes
       → (items rest : List V) (left : ℕ) → items ≡ taken ++ rest → left ≡ length rest
-      → (q.offset ≡ length q.bytes.now) × (left ≡ 0) → (free : Option ℕ) → free ≡ None
-      → (edits : ℕ)
-      → IsDone item w (record { nodes = b.nodes; root = b.root; free = free; edits = edits }) b.value bytes items
-  decoded kind bytes same items rest left split count over free none edits =
+      → (q.offset ≡ length q.bytes.now) × (left ≡ 0)
+      → (nodes : Nodes V) (free : Option ℕ) (chain : List ℕ) → LinksEmpty b.nodes.items nodes.items chain
+      → free ≡ first chain → (edits : ℕ)
+      → IsDone item w (record { nodes = nodes; root = b.root; free = free; edits = edits }) b.value bytes items
+  decoded kind bytes same items rest left split count over nodes free chain links free_is edits =
       subst (λ l. IsDone item w s b.value l items) same (subst (IsDone item w s b.value q.bytes.now) (sym (all_taken items taken rest left split count over.1))
-      (done item w kind s b.value R taken q.bytes.now grown_all none (spelled_all item w q n R [] read_all (omega (arith, over.0)))))
+      (subst (λ v. IsDone item w s v q.bytes.now taken) stands.value
+      (done item w kind s a.value R taken q.bytes.now a.nodes a.root _ _ grown_all there.0 chain
+      (subst (λ r. IsSound nodes.items r free there.0 chain) (sym root) (subst (λ f. IsSound nodes.items (moved placed.places a.root) f there.0 chain) (sym free_is) there.1))
+      there.2 (spelled_all item w q n R [] read_all (omega (arith, over.0))))))
     where
       s : NodeArena V
-      s = record { nodes = b.nodes; root = b.root; free = free; edits = edits }
+      s = record { nodes = nodes; root = b.root; free = free; edits = edits }
+
+      stands : StandsFor b a placed.places []
+      stands = subst (λ n. StandsFor b a placed.places (next_place n b.at)) (sym placed.next ∙ beside_last item a R taken built_all) placed.stands
+
+      root : b.root ≡ moved placed.places a.root
+      root = stands.root ∙ ap (λ l. moved l a.root) (append-nil placed.places)
+
+      there : (q : Plan V) × IsSound nodes.items (moved placed.places a.root) (first chain) q chain
+          × (siblings_in q ≡ siblings_in grown_all.plan)
+      there = sound_at b.nodes.items nodes.items a.nodes placed.places chain stands.lie links a.root grown_all.plan
+          grown_all.hangs.stands grown_all.hangs.at_is grown_all.numbers

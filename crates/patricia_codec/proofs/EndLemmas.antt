@@ -11,7 +11,7 @@ use Rattle.patricia_store.specs.Internal.Nodes.{Node}
 use Rattle.patricia_nodes.specs.declared.arena.NodeArena.{NodeArena}
 use Rattle.patricia_nodes.specs.Internal.Plans.{Plan, Nil, siblings_in, size, count, below}
 use Rattle.patricia_nodes.specs.Internal.Plans.{siblings_of}
-use Rattle.patricia_nodes.specs.Internal.Plans.{entries_of, IsPlan, IsWellFormed}
+use Rattle.patricia_nodes.specs.Internal.Plans.{entries_of, IsSound, IsWellFormed}
 use Rattle.patricia_nodes.proofs.PlanLemmas.{plan_is}
 use Rattle.patricia_wire.specs.Records.{Record, EncodeAll}
 use Rattle.patricia_wire.specs.Forests.{Root}
@@ -20,13 +20,14 @@ use Rattle.patricia_wire.specs.Internal.Readings.{due_where, due_behind}
 use Rattle.patricia_wire.specs.Internal.WrittenSiblings.{has_node, record_of, records_of, joined}
 use Rattle.patricia_wire.proofs.JoinedSiblings.{joined_is}
 use Rattle.patricia_wire.proofs.SiblingsTrees.{tree_of}
-use Rattle.patricia_codec.specs.declared.builder.Builder.{Builder}
 use Rattle.patricia_codec.specs.declared.builder.Next.{Next}
 use Rattle.patricia_codec.specs.declared.builder.Next.TheVariants as next
 use Rattle.patricia_codec.specs.Internal.Growing.{Gap, Hangs, AreBeside, IsGrown, IsOpenBeside}
 use Rattle.patricia_codec.specs.Internal.Growing.{IsOpenAt}
-use Rattle.patricia_codec.specs.Internal.Builds.{dues, gap_if, count_of, AddsRoot, IsBuiltAs}
-use Rattle.patricia_codec.specs.Internal.Builds.{IsBuilt, AddsRecord}
+use Rattle.patricia_codec.specs.Internal.Builds.{Building}
+use Rattle.patricia_codec.specs.Internal.Builds.{dues, gap_if, count_of, IsBuiltAs}
+use Rattle.patricia_codec.specs.Internal.Builds.{IsBuilt}
+use Rattle.patricia_codec.proofs.BuildSteps.{AddsRoot, BuildsRecord}
 use Rattle.patricia_codec.proofs.GrowingLemmas.{values_inside}
 use Rattle.patricia_codec.proofs.BuildLemmas.{some_snoc, due_next}
 
@@ -95,26 +96,26 @@ module _ (item : List ℕ → Type 0) {V : Type 0} (nodes : List (Node V)) (root
 
 module _ (item : List ℕ → Type 0) {V : Type 0} where
   -- the root is added
-  pub root_added : (old new : Builder V) (r : Record) (x : Option V) → old.next ≡ next.Root
-      → AddsRoot old x r.child new → AddsRecord item old r x new
+  pub root_added : (old new : Building V) (r : Record) (x : Option V) → old.next ≡ next.Root
+      → AddsRoot old x r.child new → BuildsRecord item old r x new
   root_added old new r x is_root adds R due waiting vs built suits vm = by r.child refl (subst (λ n. IsBuiltAs item n old R (due ∷ waiting) vs) is_root built)
     where
       by : (child : Bool) → r.child ≡ child → IsBuiltAs item next.Root old R (due ∷ waiting) vs
           → IsBuilt item new (R ++ (r ∷ [])) (due_behind r ++ waiting) (vs ++ option_to_list x)
       by true c (none, e, no_values, start) =
           let (level, label, alone) = suits.root none in
-          let nodes = ap (λ l. l.items) adds.nodes ∙ start.nodes in
-          let waits = ap (λ l. l.items) adds.waiting ∙ start.waiting in
+          let nodes = adds.nodes ∙ start.nodes in
+          let waits = adds.waiting ∙ start.waiting in
           let held = ap option_to_list adds.value_is in
-          let goes = start_above item new.nodes.items new.root new.value nodes (adds.root c) r level label alone (ap is_some adds.value_is ∙ vm) c in
+          let goes = start_above item new.nodes new.root new.value nodes (adds.root c) r level label alone (ap is_some adds.value_is ∙ vm) c in
           let tails : waiting ≡ [] = cc in
           subst (λ n. IsBuiltAs item n new (R ++ (r ∷ [])) (due_behind r ++ waiting) (vs ++ option_to_list x)) (sym (adds.below c)) (record {
             level = 1;
             gaps = [];
             goes = subst
-                (λ l. IsOpenAt item new.nodes.items new.root new.value (λ w. Unit {0}) 1 [] l
+                (λ l. IsOpenAt item new.nodes new.root new.value (λ w. Unit {0}) 1 [] l
                 (vs ++ option_to_list x)) (ap (λ l. l ++ (r ∷ [])) (sym none))
-                (subst (λ l. IsOpenAt item new.nodes.items new.root new.value (λ w. Unit {0}) 1 []
+                (subst (λ l. IsOpenAt item new.nodes new.root new.value (λ w. Unit {0}) 1 []
                 (r ∷ []) l) (held ∙ ap (λ l. l ++ option_to_list x) (sym no_values)) goes);
             wait = record { ids_are = ap reverse (sym waits); fall = tt };
             due_is = ap (λ w. due_behind r ++ w) tails ∙ due_next r 0 0 [] level ∙ ap
@@ -122,37 +123,37 @@ module _ (item : List ℕ → Type 0) {V : Type 0} where
                 (gap_if r.sibling 0 r.label 0 ++ [])) c ∙ ap
                 (λ b. (record { level = 1; after = None }) ∷ dues (gap_if b 0 r.label 0 ++ []))
                 alone;
-            label = ap (λ l. l.items) adds.label ∙ start.label;
+            label = adds.label ∙ start.label;
             some = some_snoc R r;
           })
       by false c (none, e, no_values, start) =
           let (level, label, alone) = suits.root none in
-          let nodes = ap (λ l. l.items) adds.nodes ∙ start.nodes in
-          let waits = ap (λ l. l.items) adds.waiting ∙ start.waiting in
+          let nodes = adds.nodes ∙ start.nodes in
+          let waits = adds.waiting ∙ start.waiting in
           let held = ap option_to_list adds.value_is in
-          let goes = start_alone item new.nodes.items new.root new.value nodes
+          let goes = start_alone item new.nodes new.root new.value nodes
           (adds.no_root c ∙ start.root) r level label alone (ap is_some adds.value_is ∙ vm)
           c in
           let tails : waiting ≡ [] = cc in
           subst (λ n. IsBuiltAs item n new (R ++ (r ∷ [])) (due_behind r ++ waiting) (vs ++ option_to_list x)) (sym (adds.beside c)) (record {
             gaps = [];
             goes = subst
-                (λ l. IsOpenBeside item new.nodes.items new.root new.value [] l
+                (λ l. IsOpenBeside item new.nodes new.root new.value [] l
                 (vs ++ option_to_list x)) (ap (λ l. l ++ (r ∷ [])) (sym none))
-                (subst (λ l. IsOpenBeside item new.nodes.items new.root new.value [] (r ∷ []) l)
+                (subst (λ l. IsOpenBeside item new.nodes new.root new.value [] (r ∷ []) l)
                 (held ∙ ap (λ l. l ++ option_to_list x) (sym no_values)) goes);
             wait = record { ids_are = ap reverse (sym waits); fall = tt };
             due_is = ap (λ w. due_behind r ++ w) tails ∙ due_next r 0 0 [] level ∙ ap
                 (λ b. due_where b (record { level = 1; after = None }) ++ dues
                 (gap_if r.sibling 0 r.label 0 ++ [])) c ∙ ap
                 (λ b. dues (gap_if b 0 r.label 0 ++ [])) alone;
-            label = ap (λ l. l.items) adds.label ∙ start.label;
+            label = adds.label ∙ start.label;
             some = some_snoc R r;
           })
 
   -- where no record is due, the nodes stand for a tree of the records
-  pub grown : (b : Builder V) (R : List Record) (vs : List V) → IsBuilt item b R [] vs
-      → IsGrown item b.nodes.items b.root b.value R vs (below (count_of b)) (count_of b)
+  pub grown : (b : Building V) (R : List Record) (vs : List V) → IsBuilt item b R [] vs
+      → IsGrown item b.nodes b.root b.value R vs (below (count_of b)) (count_of b)
   grown b R vs built = by b.next built
     where
       open_none : (gaps : List Gap) → [] ≡ dues gaps → gaps ≡ []
@@ -160,13 +161,13 @@ module _ (item : List ℕ → Type 0) {V : Type 0} where
       open_none (g ∷ gaps) e = absurd (cc)
 
       by : (n : Next) → IsBuiltAs item n b R [] vs
-          → IsGrown item b.nodes.items b.root b.value R vs (below (count_of b)) (count_of b)
+          → IsGrown item b.nodes b.root b.value R vs (below (count_of b)) (count_of b)
       by next.Root (none, e, no_values, start) = absurd (cc)
       by next.Below s = absurd (let e = s.due_is in cc)
       by next.Within s = absurd (let e = s.due_is in cc)
       by next.Beside s =
-          let goes = subst (λ gaps. IsOpenBeside item b.nodes.items b.root b.value gaps R vs) (open_none s.gaps s.due_is) s.goes in
-          let g = goes b.nodes.items (λ i n at. (n.sibling, at, λ away. refl)) [] [] (λ at. 0) 0 (refl, refl, λ at. refl, refl) in
+          let goes = subst (λ gaps. IsOpenBeside item b.nodes b.root b.value gaps R vs) (open_none s.gaps s.due_is) s.goes in
+          let g = goes b.nodes (λ i n at. (n.sibling, at, λ away. refl)) [] [] (λ at. 0) 0 (refl, refl, λ at. refl, refl) in
           record {
             plan = g.plan;
             written = g.written;
@@ -191,24 +192,35 @@ module _ (item : List ℕ → Type 0) {V : Type 0} where
     pub canonical : IsCanonical item (siblings_of s)
     pub means : Means item w b vs (own value ++ entries_of s)
 
-  -- when nothing is due, the nodes are those that the bytes and values mean
+  -- nodes that stand for the same siblings as nodes that are grown are those that the bytes and
+  -- values mean
   pub done : (w : ℕ) (kind : IsKeyKind item) (s : NodeArena V) (value : Option V) (R : List Record)
-      (vs : List V) (b : List ℕ)
-      → IsGrown item s.nodes.items s.root value R vs (below (length s.nodes.items))
-      (length s.nodes.items) → s.free ≡ None → EncodeAll w R b → IsDone w s value b vs
-  done w kind s value R vs b g free spelled =
-      let plan : IsPlan s.nodes.items s.root g.plan = record { stands = g.hangs.stands; at_is = g.hangs.at_is; fits = omega (arith, g.sizes) } in
-      let is = plan_is s.nodes.items s.root g.plan plan in
-      let siblings_are : siblings_of s ≡ joined g.written = ap siblings_in is ∙ g.hangs.same in
+      (vs : List V) (b : List ℕ) (nodes : List (Node V)) (root : Option ℕ) (numbers : ℕ → ℕ) (n : ℕ)
+      (g : IsGrown item nodes root value R vs numbers n) (plan : Plan V) (spare : List ℕ)
+      → IsSound s.nodes.items s.root s.free plan spare → siblings_in plan ≡ siblings_in g.plan
+      → EncodeAll w R b → IsDone w s value b vs
+  done w kind s value R vs b nodes root numbers n g plan spare sound alike spelled =
+      let is = plan_is s.nodes.items s.root plan sound.plan_ok in
+      let siblings_are : siblings_of s ≡ joined g.written = ap siblings_in is ∙ alike ∙ g.hangs.same in
       let j = joined_is item kind g.written g.hangs.writable in
       let same : entries_of s ≡ entries g.written = ap entries siblings_are ∙ j.same in
       record {
-        whole = (g.plan, ([], record { plan_ok = plan; chain = tt; free_is = free; once = λ at. omega (arith, g.numbers at); total = omega (arith, g.sizes) }));
+        whole = (plan, (spare, sound));
         canonical = subst (IsCanonical item) (sym siblings_are) j.ok;
         means = record {
           records = R;
           spelled = spelled;
-          root = subst (λ es. Root item R (keys_of (own value ++ es))) (sym same) (grown_tree s.nodes.items s.root value R vs _ _ g);
+          root = subst (λ es. Root item R (keys_of (own value ++ es))) (sym same) (grown_tree nodes root value R vs _ _ g);
           in_place = g.values ∙ ap (λ es. values_of (own value ++ es)) (sym same);
         };
       }
+
+  -- where no record is due, the last one that was read is a leaf
+  pub beside_last : (b : Building V) (R : List Record) (vs : List V) → IsBuilt item b R [] vs → b.next ≡ next.Beside
+  beside_last b R vs built = by b.next built
+    where
+      by : (n : Next) → IsBuiltAs item n b R [] vs → n ≡ next.Beside
+      by next.Root (none, e, no_values, start) = absurd (cc)
+      by next.Below s = absurd (let e = s.due_is in cc)
+      by next.Within s = absurd (let e = s.due_is in cc)
+      by next.Beside s = refl

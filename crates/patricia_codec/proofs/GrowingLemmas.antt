@@ -12,7 +12,6 @@ use Rattle.patricia_model.specs.Siblings.{Siblings, end, node, prefixed, own, en
 use Rattle.patricia_model.specs.Siblings.{IsBeforeSiblings}
 use Rattle.patricia_model.specs.Walks.{values_of}
 use Rattle.patricia_store.specs.Internal.Nodes.{Node}
-use Rattle.patricia_nodes.specs.Internal.NodeVecs.{next_if}
 use Rattle.patricia_nodes.specs.Internal.Plans.{Plan, Nil, Cell, siblings_in, head, size, count}
 use Rattle.patricia_nodes.specs.Internal.Plans.{below, one}
 use Rattle.patricia_nodes.specs.Internal.Plans.{linked, LaidOut}
@@ -26,6 +25,11 @@ use Rattle.patricia_wire.specs.Internal.WrittenSiblings.{IsWritable}
 use Rattle.patricia_codec.specs.Internal.Builds.{gap_if}
 use Rattle.patricia_codec.specs.Internal.Growing.{Gap, IsLater, Hangs, Unlaid, AreBeside, IsGrown}
 use Rattle.patricia_codec.specs.Internal.Growing.{IsOpenBeside, IsOpenAt, IsOpenWithin}
+
+-- the number behind n, if that is to be a link
+abbrev pub next_if : Bool → ℕ → Option ℕ
+next_if true n = Some (n + 1)
+next_if false n = None
 
 -- two numbers are equal, or they differ
 same_or : (i k : ℕ) → (i ≡ k) ⊎ (i ≢ k)

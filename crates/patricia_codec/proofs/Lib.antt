@@ -1,4 +1,5 @@
 pub mod BuildLemmas
+pub mod BuildSteps
 pub mod CheckLemmas
 pub mod DecodeLemmas
 pub mod EncodeLemmas
@@ -7,5 +8,10 @@ pub mod FewEntries
 pub mod GrowingLemmas
 pub mod LeftLemmas
 pub mod PieceLemmas
+pub mod PlacedRecords
+pub mod PlacedSteps
+pub mod PlacedTrees
+pub mod PlacingLemmas
 pub mod ReadLemmas
 pub mod ReaderLemmas
+pub mod SpareLemmas

@@ -87,6 +87,12 @@ spelled_length w r b s = omega (
   length-high_first w r.level,
 )
 
+-- bytes that begin with a record have all of it
+pub front_long : (w : ℕ) (r : Record) (bytes : List ℕ) → Fronts w r bytes
+    → 2 + w + length r.label ≤ length bytes
+front_long w r bytes front =
+    omega (arith, spelled_length w r front.first front.spelled, ap length front.joined, length-append front.first front.rest)
+
 module _ (item : List ℕ → Type 0) (w : ℕ) where
   -- where nothing is on the stack, nothing is due
   pub ended : (p q : Reader) → q.bytes.now ≡ p.bytes.now → q.offset ≡ p.offset → p.due.items ≡ []

@@ -3,4 +3,5 @@ pub mod Builds
 pub mod Growing
 pub mod Lefts
 pub mod Pieces
+pub mod Placing
 pub mod Steps

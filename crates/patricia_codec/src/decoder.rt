@@ -5,16 +5,19 @@ ghost use Rattle.patricia_model.specs.Trees.{IsTree};
 ghost use Rattle.patricia_nodes.specs.Internal.Plans.{IsWellFormed, siblings_of, entries_of};
 ghost use Rattle.patricia_wire.specs.Writings.{Means};
 ghost use Rattle.patricia_wire.specs.Faults.{IsRefusal};
+ghost use Rattle.patricia_codec.specs.Internal.Placing.{IsNew};
 
 use crate::builder::Builder;
+use crate::counts::count_children;
 use crate::reader::Reader;
+use crate::spare::link_empty;
 use crate::width::Width;
 use patricia_keys::Bytes;
 use patricia_nodes::arena::NodeArena;
-use patricia_nodes::link::Link;
 use patricia_nodes::parts::TreeParts;
 use patricia_wire::DecodeError;
-use std::alloc::Global;
+use std::alloc::{AllocError, Global};
+use std::vec::IntoIter;
 
 // How many of so many values are not that of the empty key.
 fn others<V>(given: usize, value: &Option<V>) -> usize
@@ -27,18 +30,19 @@ fn others<V>(given: usize, value: &Option<V>) -> usize
     }
 }
 
-// How many nodes, and bytes of labels, there is room for before the first record is read. Seldom do
-// two values have more than three nodes. Labels are what is left beside the heads of records, at
-// least one for each value. Many values ask for no more than few bytes do.
-fn room_for<W: Width>(bytes: &[u8], given: usize) -> (usize, usize)
-    ensures nodes { result.0 ≤ length bytes.now }
-    ensures labels { result.1 ≤ length bytes.now }
+// Nothing is read, and there is room for as many nodes as there are records, and for all that is no
+// head of a record. The numbers are those of the children of each record.
+fn start<W: Width, V: Drop>(
+    alloc: Global,
+    bytes: &[u8],
+) -> Result<(Builder<V>, IntoIter<u32>), AllocError>
+    ensures { IfOk result (λ r. IsNew r.0) }
 {
-    let head = W::head();
-    let records = bytes.len() / head;
-    let nodes = given.saturating_add(given / 2).min(records);
-    let heads = head.saturating_mul(given.max(1));
-    (nodes, bytes.len().saturating_sub(heads))
+    let counts = count_children::<W>(alloc, bytes)?;
+    let heads = W::head().saturating_mul(counts.len());
+    let labels = bytes.len().saturating_sub(heads);
+    let builder = Builder::new(alloc, counts.len(), labels)?;
+    Ok((builder, counts.into_iter()))
 }
 
 /// Reads a tree from its bytes and its values. Where they are refused the values are dropped.
@@ -57,13 +61,14 @@ pub fn decode<K: Bytes, W: Width, V: Drop>(
     let given = values.len();
     let mut values = values.into_iter();
     let mut reader = Reader::new(alloc, bytes)?;
-    let (nodes, labels) = room_for::<W>(bytes, given);
-    let mut builder = Builder::new(alloc, nodes, labels)?;
+    let (mut builder, mut counts) = start::<W, V>(alloc, bytes)?;
     while let Some(record) = reader.next::<K, W>(values.len())? {
         let value = if record.value { values.next() } else { None };
-        builder.add::<K>(&record, value)?;
+        let children = counts.next().unwrap_or(0);
+        builder.add::<K>(&record, value, children)?;
     }
     reader.finish::<K, W>(values.len())?;
+    let free = link_empty(&mut builder.nodes);
     let count = others(given, &builder.value);
     Ok(TreeParts {
         alloc,
@@ -72,9 +77,8 @@ pub fn decode<K: Bytes, W: Width, V: Drop>(
         arena: NodeArena {
             nodes: builder.nodes,
             root: builder.root,
-            free: Link::none(),
-            // in the order of keys, siblings lie far apart
-            edits: usize::MAX,
+            free,
+            edits: 0,
         },
     })
 }

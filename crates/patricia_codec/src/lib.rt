@@ -4,12 +4,14 @@
 #![tactic(auto)]
 
 mod builder;
+mod counts;
 pub mod decoder;
 mod due;
 pub mod encoder;
 mod reader;
 mod record;
 mod records;
+mod spare;
 pub mod width;
 
 pub use decoder::decode;

@@ -386,20 +386,6 @@ impl<K: Bytes, V: Drop> Tree<K, V> {
         encode::<K, W, V>(self.parts.alloc, &self.parts.value, &self.parts.arena)
     }
 
-    // The tree of the entries that the bytes mean with the values, with its nodes in key order.
-    fn decoded<W: Width>(alloc: Global, bytes: &[u8], values: Vec<V>) -> Result<Self, DecodeError>
-        ensures ok { IfOk result (λ t.
-            Means K.item W.width bytes.now values.items (map.entries t)) }
-        ensures refused { IfErr result (λ e.
-            IsRefusal K.item W.width bytes.now (length values.items) e) }
-    {
-        let parts = decode::<K, W, V>(alloc, bytes, values)?;
-        Ok(Tree {
-            parts,
-            kind: PhantomData,
-        })
-    }
-
     /// The tree of the entries that the bytes mean with the values, which are in key order, where
     /// levels have this width. Where it is refused the values are dropped.
     pub fn from_wire<W: Width>(
@@ -412,9 +398,11 @@ impl<K: Bytes, V: Drop> Tree<K, V> {
         ensures refused { IfErr result (λ e.
             IsRefusal K.item W.width bytes.now (length values.items) e) }
     {
-        let mut tree = Self::decoded::<W>(alloc, bytes, values)?;
-        tree.settle_nodes();
-        Ok(tree)
+        let parts = decode::<K, W, V>(alloc, bytes, values)?;
+        Ok(Tree {
+            parts,
+            kind: PhantomData,
+        })
     }
 
     /// A walk over the entries in key order. Making it does not allocate.

@@ -24,7 +24,7 @@ module _ {V : Type 0} where
   renamed places (Cell id l v c d) = Cell (place_of places id) l v (renamed places c) (renamed places d)
 
   -- it begins with the new number of its first node
-  head-renamed : (places : List ℕ) (q : Plan V) → head (renamed places q) ≡ moved places (head q)
+  pub head-renamed : (places : List ℕ) (q : Plan V) → head (renamed places q) ≡ moved places (head q)
   head-renamed places Nil = refl
   head-renamed places (Cell id l v c d) = refl
 

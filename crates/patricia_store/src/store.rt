@@ -260,18 +260,11 @@ impl<V> Store<V> {
         ensures capacity { self.new.capacity ≡ self.old.capacity }
         ensures room { self.old.room ≤ self.new.room + label_room (length label.now) }
     {
-        self.dead = self
-            .dead
-            .saturating_add(label_len(&self.bodies[id], &self.labels));
-        let span = self.labels.push(label);
+        self.dead = self.dead.saturating_add(self.label_len(id));
         let sibling = self.heads[id].sibling();
-        let node = Draft {
-            span,
-            child,
-            sibling,
-            value,
-        };
-        write(&mut self.heads, &mut self.bodies, &self.labels, id, node)
+        let span = self.labels.push(label);
+        self.heads[id] = Head::new(id + 1, child, sibling, label, span.offset);
+        self.bodies[id].replace(span, value)
     }
 
     /// Lends the value of a node.

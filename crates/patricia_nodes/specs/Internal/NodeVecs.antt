@@ -1,17 +1,12 @@
 -- What calls on a vector of nodes read, write and lend.
 use Rattle.std.specs.Prelude.{◌≡◌, ℕ, ◌+◌, ◌<◌, ◌≤◌, Option, Some, None, slice_get, slice_set}
-use Rattle.std.specs.Prelude.{slice_index_or, ◌++◌, take, drop, length, Bool, true, false}
+use Rattle.std.specs.Prelude.{slice_index_or, ◌++◌, take, drop, length}
 use Rattle.patricia_store.specs.Internal.Labels.{joined_room}
 use Rattle.std.specs.Borrow.{LendsIf, Fml, RattleType, MutBor}
 use Rattle.patricia_store.specs.Internal.Heads.{byte_of}
 use Rattle.patricia_store.specs.Internal.Nodes.{Node, Nodes, KeepsRoom, linked}
 use Rattle.patricia_nodes.specs.declared.arena.node_vec.NodeVec.{NodeVec}
 use Rattle.patricia_nodes.specs.contracts.arena.node_vec.NodeVec.{the_row}
-
--- the number behind n, if that is to be a link
-abbrev pub next_if : Bool → ℕ → Option ℕ
-next_if true n = Some (n + 1)
-next_if false n = None
 
 module _ {V : Type 0} where
   -- this is so of the node with the number

@@ -1,6 +1,6 @@
 //! The nodes of a tree by their numbers.
 ghost use Rattle.std.specs.Prelude.{◌≡◌, ◌+◌, ◌<◌, ◌≤◌, ◌≢◌, ◌++◌, [], ◌∷◌, IfOk, IsOk, OnOk};
-ghost use Rattle.std.specs.Prelude.{IfSome, Some, None, OnErr};
+ghost use Rattle.std.specs.Prelude.{IfSome, Some, None, OnErr, replicate};
 ghost use Rattle.patricia_model.specs.Clones.{CloneIsSame};
 ghost use Rattle.std.specs.Prelude.{ℕ, take, length, slice_get};
 ghost use Rattle.std.specs.Borrow.{sem};
@@ -8,15 +8,15 @@ ghost use Rattle.std.specs.Option.{option_copied, option_copied_mut};
 ghost use Rattle.patricia_store.specs.Internal.Packing.{most};
 ghost use Rattle.patricia_store.specs.Internal.Heads.{byte_of, short_len_of};
 ghost use Rattle.patricia_store.specs.Internal.Labels.{label_room, joined_room, cut_room};
-ghost use Rattle.patricia_store.specs.Internal.Nodes.{Node, IsLink, KeepsRoom, linked};
+ghost use Rattle.patricia_store.specs.Internal.Nodes.{Node, IsLink, KeepsRoom, linked, blank};
 ghost use Rattle.patricia_store.specs.Internal.Permutations.{AreInverse};
 ghost use Rattle.patricia_store.specs.Internal.Renumbering.{moved, KeepsRearranged};
 ghost use Rattle.patricia_nodes.specs.Internal.NodeVecs.{ReadsNode, Changes, Trades, value_in};
 ghost use Rattle.patricia_nodes.specs.Internal.NodeVecs.{Splits, Joins, IsRun, HasJoinedRoom};
-ghost use Rattle.patricia_nodes.specs.Internal.NodeVecs.{lends_value_at, next_if};
+ghost use Rattle.patricia_nodes.specs.Internal.NodeVecs.{lends_value_at};
 
 use crate::link::{Link, NodeId};
-use patricia_store::{Store, label_room};
+use patricia_store::Store;
 use std::alloc::{AllocError, Global};
 use std::marker::Model;
 
@@ -308,16 +308,6 @@ impl<V> NodeVec<V> {
             .push_joined(upper, lower, value, number(child), number(sibling));
     }
 
-    /// Links a node to the one that is added next, as its sibling.
-    pub fn link_next(&mut self, id: NodeId)
-        requires { id < length self.old.items }
-        ensures node { Changes self.old self.new id
-            (λ n. record n { sibling = Some (length self.old.items) }) }
-        ensures room { KeepsRoom self.old self.new }
-    {
-        self.store.set_sibling(id.index(), Some(self.store.len()));
-    }
-
     /// Keeps the first `n` bytes of a node's label, or all where there are fewer, and puts another
     /// value to it. The rest of the label, the value and the children that the node had go to the
     /// node `tail`, which becomes its first child and keeps its own sibling; returns the value that
@@ -410,24 +400,13 @@ impl<V: Drop> NodeVec<V> {
             .push(label, value, number(child), number(sibling))
     }
 
-    /// Adds a last node, whose first child, if any, is added next. Makes room as `push` does.
-    pub fn push_in_order(
-        &mut self,
-        label: &[u8],
-        value: Option<V>,
-        child: bool,
-    ) -> Result<(), AllocError>
-        ensures items { OnOk result (self.new.items ≡ self.old.items
-            ++ linked label.now value (next_if child (length self.old.items)) None ∷ []) }
+    /// Adds so many nodes without label, value and links behind the last. Where there is no room,
+    /// makes room for as many again as there are, or for so many where that is more.
+    pub fn push_blank(&mut self, count: usize) -> Result<(), AllocError>
+        ensures items { OnOk result (self.new.items ≡ self.old.items ++ replicate count blank) }
         ensures kept { OnErr result (self.new.items ≡ self.old.items) }
     {
-        self.store.reserve_node(label_room(label.len()))?;
-        // for the proof alone: the number behind that of the new node can be a link
-        let _few = self.store.capacity();
-        let next = self.store.len() + 1;
-        let below = if child { Some(next) } else { None };
-        self.store.push_reserved(label, value, below, None);
-        Ok(())
+        self.store.push_blank(count)
     }
 
     /// Makes room for the labels of two nodes as one.

@@ -173,9 +173,9 @@ impl<V: Drop> NodeArena<V> {
         }
     }
 
-    /// Relocates the nodes for their order, and leaves their labels where they are: those of a tree
-    /// that was read lie in the order of its keys. Without memory for that the nodes stay where
-    /// they are, and it is no error.
+    /// Relocates the nodes for their order, and leaves their labels where they are: those of keys
+    /// that were inserted in order lie in it. Without memory for that the nodes stay where they
+    /// are, and it is no error.
     pub fn settle_nodes(&mut self, alloc: Global)
         requires whole { IsWellFormed self.old }
         ensures whole { IsWellFormed self.new }

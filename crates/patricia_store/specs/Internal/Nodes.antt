@@ -67,6 +67,10 @@ module _ {V : Type 0} where
   linked label value child sibling =
       record { label = label; value = value; child = child; sibling = sibling }
 
+  -- a node without label, value and links
+  abbrev pub blank : Node V
+  blank = linked [] None None None
+
   -- the value of a node, where there is one
   abbrev pub value_at : Option (Node V) → Option V
   value_at None = None

@@ -1,8 +1,8 @@
 //! Nodes that are added, and room for them.
 ghost use Rattle.std.specs.Prelude.{◌≡◌, ◌+◌, ◌<◌, ◌≤◌, ◌++◌, [], ◌∷◌, length};
-ghost use Rattle.std.specs.Prelude.{IfOk, IsOk, OnOk, OnErr};
+ghost use Rattle.std.specs.Prelude.{IfOk, IsOk, OnOk, OnErr, replicate};
 ghost use Rattle.patricia_store.specs.Internal.Labels.{label_room, joined_room};
-ghost use Rattle.patricia_store.specs.Internal.Nodes.{IsLink, linked};
+ghost use Rattle.patricia_store.specs.Internal.Nodes.{IsLink, linked, blank};
 
 use super::Store;
 use crate::draft::{Draft, push};
@@ -193,6 +193,24 @@ impl<V: Drop> Store<V> {
     {
         self.reserve_node(label_room(label.len()))?;
         self.push_reserved(label, value, child, sibling);
+        Ok(())
+    }
+
+    /// Adds so many nodes without label, value and links behind the last. Where there is no room,
+    /// makes room for as many again as there are, or for so many where that is more.
+    pub fn push_blank(&mut self, count: usize) -> Result<(), AllocError>
+        ensures items { OnOk result (self.new.items ≡ self.old.items ++ replicate count blank) }
+        ensures kept { OnErr result (self.new.items ≡ self.old.items) }
+    {
+        let len = self.len();
+        if count > self.capacity() - len {
+            self.reserve(count.max(len), 0)?;
+        }
+        let mut added = 0;
+        while added < count {
+            self.push_reserved(&[], None, None, None);
+            added += 1;
+        }
         Ok(())
     }
 }

@@ -2,7 +2,7 @@ use Rattle.std.proofs.Common.{sym, subst}
 use Rattle.patricia_nodes.specs.Internal.Plans.{siblings_of}
 use Rattle.patricia_model.proofs.TreeLemmas.{entries_map}
 use Rattle.patricia_wire.specs.Writings.{Means}
-use Rattle.patricia_core.proofs.tree.Tree.decoded.Goals as goal
+use Rattle.patricia_core.proofs.tree.Tree.from_wire.Goals as goal
 
 pub invariant_of-result : goal.invariant_of-result
 invariant_of-result g c = record { whole = c.in_ok-parts.ensures.whole; tree = c.in_ok-parts.ensures.tree }
