@@ -6,7 +6,7 @@ use Rattle.patricia_store.specs.Internal.Nodes.{Node}
 use Rattle.patricia_store.specs.Internal.Heads.{short_len_of}
 use Rattle.patricia_nodes.specs.Internal.Plans.{times, one, below, first, IsChain}
 use Rattle.patricia_nodes.proofs.PlanLemmas.{below_in, below_out}
-use Rattle.patricia_nodes.proofs.NodeVecLemmas.{short_exact}
+use Rattle.patricia_store.proofs.HeadLemmas.{short_exact}
 use Rattle.patricia_nodes.proofs.FreeLemmas.{there_read}
 use Rattle.patricia_nodes.proofs.WriteLemmas.{get-set_same, get-set_other, chain-keep}
 use Rattle.patricia_codec.specs.Internal.Placing.{LinksEmpty}

@@ -11,21 +11,20 @@ pub fn count_children<W: Width>(alloc: Global, bytes: &[u8]) -> Result<Vec<u32>,
     ensures { IfOk result (λ counts. length counts.items ≤ length bytes.now) }
 {
     let mut counts: Vec<u32> = Vec::new(alloc);
-    // the records whose children come, the innermost last
-    let mut parents: Vec<usize> = Vec::new(alloc);
+    // the last record of each level
+    let mut last: Vec<usize> = Vec::new(alloc);
     let mut rest = bytes;
     while let Some(record) = Record::read::<W>(rest) {
         rest = &rest[W::head() + record.label.len()..];
-        if let Some(parent) = parents.last() {
+        let level = record.level as usize;
+        if let Some(parent) = last.get(level.wrapping_sub(1)) {
             if let Some(count) = counts.get_mut(*parent) {
                 *count = count.saturating_add(1);
             }
         }
-        if !record.sibling {
-            parents.pop();
-        }
-        if record.child {
-            parents.push(counts.len())?;
+        match last.get_mut(level) {
+            Some(id) => *id = counts.len(),
+            None => last.push(counts.len())?,
         }
         counts.push(0)?;
     }

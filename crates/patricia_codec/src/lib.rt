@@ -4,7 +4,7 @@
 #![tactic(auto)]
 
 mod builder;
-mod counts;
+pub mod counts;
 pub mod decoder;
 mod due;
 pub mod encoder;

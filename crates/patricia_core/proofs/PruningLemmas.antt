@@ -1,5 +1,5 @@
 -- A walk that removes entries from a tree where it stands.
-use Rattle.std.proofs.Common.{◌≡◌, ◌≢◌, ◌<◌, ◌≤◌, ℕ, T, Bool, true, false, cond, List, [], ◌∷◌, ◌++◌, Option, Some, None, length}
+use Rattle.std.proofs.Common.{◌≡◌, ◌≢◌, ◌<◌, ◌≤◌, ℕ, T, true, false, List, [], ◌∷◌, ◌++◌, Option, Some, None, length}
 use Rattle.std.proofs.Common.{refl, sym, ap, subst, ◌∙◌}
 use Rattle.std.specs.Prelude.{is_some}
 use Rattle.std.specs.List.{All, AllByRecursion}
@@ -13,10 +13,9 @@ use Rattle.patricia_keys.specs.Keys.{IsKeyKind, key_cmp}
 use Rattle.patricia_keys.proofs.KeyLemmas.{key_cmp-same}
 use Rattle.patricia_model.specs.Cursors.{after}
 use Rattle.patricia_model.specs.Internal.Removals.{others}
-use Rattle.patricia_model.specs.Siblings.{own, entries, keys_of}
+use Rattle.patricia_model.specs.Siblings.{own, keys_of}
 use Rattle.patricia_model.specs.Trees.{map_of}
 use Rattle.patricia_model.proofs.CursorLemmas.{after_first}
-use Rattle.patricia_model.proofs.ListLemmas.{key_cmp-equal}
 use Rattle.patricia_model.proofs.TreeLemmas.{get_empty, get_filled, insert_empty, insert_filled, keys_map, remove_empty, remove_filled, tree_sorted}
 use Rattle.patricia_nodes.specs.Internal.Plans.{siblings_of, entries_of}
 use Rattle.patricia_nodes.specs.declared.parts.TreeParts.{TreeParts}

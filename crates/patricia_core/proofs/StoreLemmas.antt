@@ -10,6 +10,7 @@ use Rattle.patricia_model.specs.Trees.{map_of}
 use Rattle.patricia_model.proofs.TreeLemmas.{entries_map, length_new, length_old}
 use Rattle.patricia_nodes.specs.declared.arena.NodeArena.{NodeArena}
 use Rattle.patricia_nodes.specs.Internal.Plans.{IsWellFormed, siblings_of, entries_of}
+use Rattle.patricia_nodes.specs.declared.arena.seek.LinkRef.{LinkRef}
 use Rattle.patricia_nodes.specs.Internal.Trails.{IsTrail}
 use Rattle.patricia_nodes.specs.Internal.Writes.{IsPut}
 use Rattle.patricia_core.specs.Internal.Stores.{IsStored, IsMerged}
@@ -51,7 +52,7 @@ module _ (item : List ℕ → Type 0) (kind : IsKeyKind item) {V : Type 0} where
 
 -- a trail is that of the last key, where the bytes of that were kept
 pub merged_kept : (item : List ℕ → Type 0) {V : Type 0} (s : NodeArena V) (count : ℕ)
-    (key bytes last : List ℕ) (trail : List (ℕ × ℕ)) → IsStored item s count → IsValid item key
+    (key bytes last : List ℕ) (trail : List (LinkRef × ℕ)) → IsStored item s count → IsValid item key
     → IsTrail item s key trail → bytes ≡ key → (last ≡ bytes) ⊎ (last ≡ [])
     → IsMerged item s count last trail
 merged_kept item s count key bytes last trail stored valid passed is (inl kept) =

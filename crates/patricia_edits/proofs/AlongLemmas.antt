@@ -1,30 +1,28 @@
 -- A value that is inserted at a place behind a trail, or removed there.
 use Rattle.std.proofs.Common.{◌≡◌, ◌≢◌, inl, inr, ℕ, ◌+◌, ◌<◌, List, [], ◌∷◌, ◌++◌, length, Option, None, refl, sym, ap, subst, ◌∙◌, arith}
 use Rattle.std.specs.Prelude.{reverse}
-use Rattle.patricia_keys.specs.Keys.{IsKeyKind}
 use Rattle.patricia_nodes.specs.declared.arena.NodeArena.{NodeArena}
 use Rattle.patricia_nodes.specs.declared.arena.seek.LinkRef.{LinkRef}
-use Rattle.patricia_nodes.specs.declared.arena.seek.LinkRef.TheVariants.{Child, Sibling}
 use Rattle.patricia_nodes.specs.declared.arena.seek.Match.{Match}
 use Rattle.patricia_nodes.specs.Internal.Merges.{LeavesOther}
 use Rattle.patricia_nodes.specs.Internal.Plans.{Plan, Cell}
-use Rattle.patricia_nodes.specs.Internal.Places.{Frame, InChild, InSibling, above_of, link_ref_of, Leads}
+use Rattle.patricia_nodes.specs.Internal.Places.{Frame, InChild, InSibling, link_ref_of, Leads}
 use Rattle.patricia_nodes.specs.Internal.Places.{Placed}
-use Rattle.patricia_nodes.specs.Internal.Trails.{path_of, AreAbove, IsTrail, KeepsAround, PlacedBehind}
+use Rattle.patricia_nodes.specs.Internal.Trails.{path_of, ArePassed, IsTrail, KeepsAround, PlacedBehind}
 use Rattle.patricia_nodes.specs.Internal.Writes.{Stays}
-use Rattle.patricia_nodes.proofs.TrailLemmas.{IsCutFrom, cut_within, above_deeper, filled_length}
-use Rattle.patricia_nodes.proofs.TrailLemmas.{leads_to, path_length, trail_cut}
+use Rattle.patricia_nodes.proofs.TrailLemmas.{IsCutFrom, cut_within, passed_deeper}
+use Rattle.patricia_nodes.proofs.TrailLemmas.{leads_to, path_length, trail_less}
 use Rattle.patricia_edits.specs.Internal.Removes.{IsLeaf, KeepsAbove, IsCutBefore}
 
--- a trail is cut far enough where its last node ends before n bytes
-pub cut_short : (old now left : List (ℕ × ℕ)) (x : ℕ × ℕ) (n : ℕ) → IsCutFrom old now
+-- a trail is cut far enough where the path to its last place ends before n bytes
+pub cut_short : (old now left : List (LinkRef × ℕ)) (x : LinkRef × ℕ) (n : ℕ) → IsCutFrom old now
     → now ≡ left ++ x ∷ [] → x.1 < n → IsCutBefore n old now
 cut_short old now left x n cut last short =
     let c = cut_within old now left x x.1 cut last (omega arith) in
     record { cut = c.cut; is = c.is; before = λ e es back. let within = c.within e es back in omega (arith, within, short) }
 
--- or where no node is left
-pub cut_none : (old now : List (ℕ × ℕ)) (n : ℕ) → IsCutFrom old now → now ≡ [] → IsCutBefore n old now
+-- or where no place is left
+pub cut_none : (old now : List (LinkRef × ℕ)) (n : ℕ) → IsCutFrom old now → now ≡ [] → IsCutBefore n old now
 cut_none old now n cut none = record {
   cut = cut.0;
   is = cut.1;
@@ -32,11 +30,11 @@ cut_none old now n cut none = record {
 }
 
 module _ {V : Type 0} where
-  -- a node of a trail whose label ends before that of the node above a place is above that node
-  above_child : (id : ℕ) (l : List ℕ) (v : Option V) (d : Plan V) (outer : List (Frame V)) (e : ℕ × ℕ)
-      (es : List (ℕ × ℕ)) (inner mid : List (Frame V)) → InChild id l v d ∷ outer ≡ inner ++ mid
-      → link_ref_of mid ≡ Child e.0 → e.1 ≡ length (path_of mid) → AreAbove es mid
-      → e.1 < length (path_of outer ++ l) → AreAbove (e ∷ es) outer
+  -- a place of a trail whose path ends before the label of the node above ends is not below that
+  above_child : (id : ℕ) (l : List ℕ) (v : Option V) (d : Plan V) (outer : List (Frame V)) (e : LinkRef × ℕ)
+      (es : List (LinkRef × ℕ)) (inner mid : List (Frame V)) → InChild id l v d ∷ outer ≡ inner ++ mid
+      → link_ref_of mid ≡ e.0 → e.1 ≡ length (path_of mid) → ArePassed es mid
+      → e.1 < length (path_of outer ++ l) → ArePassed (e ∷ es) outer
   above_child id l v d outer e es [] mid is at len rest short =
       let same : length (path_of outer ++ l) ≡ length (path_of mid) = ap (λ fs. length (path_of fs)) is in
       absurd (omega (arith, same, len, short))
@@ -45,26 +43,27 @@ module _ {V : Type 0} where
       let left : outer ≡ inner ++ mid = cc in
       (inner, mid, left, at, len, rest)
 
-  -- and a node of a trail is not beside a place
-  above_sibling : (id : ℕ) (l : List ℕ) (v : Option V) (c : Plan V) (outer : List (Frame V)) (e : ℕ × ℕ)
-      (es : List (ℕ × ℕ)) (inner mid : List (Frame V)) → InSibling id l v c ∷ outer ≡ inner ++ mid
-      → link_ref_of mid ≡ Child e.0 → e.1 ≡ length (path_of mid) → AreAbove es mid
-      → AreAbove (e ∷ es) outer
-  above_sibling id l v c outer e es [] mid is at len rest =
-      absurd (let no : Sibling id (above_of outer) ≡ Child e.0 = ap link_ref_of is ∙ at in cc)
-  above_sibling id l v c outer e es (f ∷ inner) mid is at len rest =
+  -- and not beside a place below it
+  above_sibling : (id : ℕ) (l : List ℕ) (v : Option V) (c : Plan V) (outer : List (Frame V)) (e : LinkRef × ℕ)
+      (es : List (LinkRef × ℕ)) (inner mid : List (Frame V)) → InSibling id l v c ∷ outer ≡ inner ++ mid
+      → link_ref_of mid ≡ e.0 → e.1 ≡ length (path_of mid) → ArePassed es mid
+      → e.1 < length (path_of outer) → ArePassed (e ∷ es) outer
+  above_sibling id l v c outer e es [] mid is at len rest short =
+      let same : length (path_of outer) ≡ length (path_of mid) = ap (λ fs. length (path_of fs)) is in
+      absurd (omega (arith, same, len, short))
+  above_sibling id l v c outer e es (f ∷ inner) mid is at len rest short =
       let both : InSibling id l v c ∷ outer ≡ f ∷ (inner ++ mid) = is in
       let left : outer ≡ inner ++ mid = cc in
       (inner, mid, left, at, len, rest)
 
   module _ (frames : List (Frame V)) (beside : Plan V) (u o : ℕ) (left : LeavesOther frames beside u o) where
-    -- the nodes of a trail that end before a place, whose node above takes in its other child, are
-    -- above both
-    above_outer : (cut es : List (ℕ × ℕ)) → AreAbove (cut ++ es) frames
-        → ((e : ℕ × ℕ) (rest : List (ℕ × ℕ)) → es ≡ e ∷ rest → e.1 < length (path_of frames))
-        → AreAbove es left.outer
+    -- the places of a trail whose paths end before that of a place, whose node above takes in its
+    -- other child, are above both
+    above_outer : (cut es : List (LinkRef × ℕ)) → ArePassed (cut ++ es) frames
+        → ((e : LinkRef × ℕ) (rest : List (LinkRef × ℕ)) → es ≡ e ∷ rest → e.1 < length (path_of frames))
+        → ArePassed es left.outer
     above_outer (c ∷ cut) es (inner, mid, is, at, len, rest) short =
-        above_outer cut es (subst (AreAbove (cut ++ es)) (sym is) (above_deeper (cut ++ es) inner mid rest)) short
+        above_outer cut es (subst (ArePassed (cut ++ es)) (sym is) (passed_deeper (cut ++ es) inner mid rest)) short
     above_outer [] [] above short = tt
     above_outer [] (e ∷ es) (inner, mid, is, at, len, rest) short = elim left.stands [
       | inl s ↦
@@ -73,7 +72,7 @@ module _ {V : Type 0} where
       | inr s ↦
           let near : e.1 < length (path_of left.outer ++ left.label) = subst (λ fs. e.1 < length (path_of fs)) s.0 (short e es refl) in
           let above = above_sibling o left.inner left.own left.below (InChild u left.label None left.beside ∷ left.outer) e es inner mid
-          (sym s.0 ∙ is) at len rest in
+          (sym s.0 ∙ is) at len rest near in
           above_child u left.label None left.beside left.outer e es above.0 above.1 above.2 above.3 above.4 above.5 near
     ]
 
@@ -87,7 +86,7 @@ module _ {V : Type 0} where
           left.outer key rest some (subst (λ fs. Leads item fs key rest) s.0 leads)
     ]
 
--- a place is one past no nodes
+-- a place is one past no other
 pub behind_none : {item : List ℕ → Type 0} → {V : Type 0} → {s : NodeArena V} → {key : List ℕ}
     → {link_ref : LinkRef} → {at : Option ℕ} → {rest : List ℕ} → {matched : Match}
     → Placed item s key link_ref at rest matched → PlacedBehind item s key link_ref at rest matched []
@@ -100,13 +99,13 @@ behind_none p = record {
     at_is = p.at_is;
     leads = p.leads;
     rest_nonempty = p.rest_nonempty;
-    above = tt;
+    passed = tt;
   };
   is_match = p.is_match;
 }
 
 module _ {item : List ℕ → Type 0} {V : Type 0} {s : NodeArena V} {key : List ℕ}
-    {link_ref : LinkRef} {at : Option ℕ} {rest : List ℕ} {matched : Match} {trail : List (ℕ × ℕ)}
+    {link_ref : LinkRef} {at : Option ℕ} {rest : List ℕ} {matched : Match} {trail : List (LinkRef × ℕ)}
     (p : PlacedBehind item s key link_ref at rest matched trail) where
   -- a place stays where it is while the nodes do
   pub behind_stays : (new : NodeArena V) → Stays s new
@@ -120,7 +119,7 @@ module _ {item : List ℕ → Type 0} {V : Type 0} {s : NodeArena V} {key : List
       at_is = p.come.at_is;
       leads = p.come.leads;
       rest_nonempty = p.come.rest_nonempty;
-      above = p.come.above;
+      passed = p.come.passed;
     };
     is_match = p.is_match;
   }
@@ -134,7 +133,7 @@ module _ {item : List ℕ → Type 0} {V : Type 0} {s : NodeArena V} {key : List
     fills = kept.1;
     leads = p.come.leads;
     rest_nonempty = p.come.rest_nonempty;
-    above = p.come.above;
+    passed = p.come.passed;
   }
 
   -- or where nothing was changed
@@ -153,20 +152,12 @@ module _ {item : List ℕ → Type 0} {V : Type 0} {s : NodeArena V} {key : List
   pub passed_length : length (path_of p.come.frames) + length rest ≡ length key
   passed_length = path_length item p.come.frames key rest p.come.leads
 
-  -- where a leaf was removed, the nodes that end before the place are a trail
-  pub trail_before : IsKeyKind item → (new : NodeArena V) (id n : ℕ) (left : List (ℕ × ℕ))
+  -- where a leaf was removed, the places whose paths end before that of it are a trail
+  pub trail_before : (new : NodeArena V) (id n : ℕ) (left : List (LinkRef × ℕ))
       → n + length rest ≡ length key → KeepsAbove s new id p.come.frames → IsCutBefore n trail left
       → IsTrail item new key left
-  trail_before kind new id n left total kept c = elim kept [
-    | inl around ↦
-        let more = filled_length rest p.come.rest_nonempty in
-        trail_cut item kind new key key n trail left (trail_to new around)
-        (record {
-          cut = c.cut;
-          is = c.is;
-          within = λ e es back. let before = c.before e es back in omega (arith, before);
-        })
-        (omega (arith, total, more)) refl
+  trail_before new id n left total kept c = elim kept [
+    | inl around ↦ trail_less item new key trail left c.cut c.is (trail_to new around)
     | inr joined ↦
         let other = joined.1 in
         let led = leads_outer p.come.frames other.beside other.upper other.other other.left item key rest
@@ -178,8 +169,8 @@ module _ {item : List ℕ → Type 0} {V : Type 0} {s : NodeArena V} {key : List
           fills = other.fills;
           leads = led.2;
           rest_nonempty = led.1;
-          above = above_outer p.come.frames other.beside other.upper other.other other.left c.cut (reverse left)
-              (rw (← c.is) p.come.above)
+          passed = above_outer p.come.frames other.beside other.upper other.other other.left c.cut (reverse left)
+              (rw (← c.is) p.come.passed)
               (λ e es back. let before = c.before e es back in omega (arith, before, total, passed_length));
         }
   ]

@@ -1,6 +1,6 @@
 -- Where a walk goes on once the entry at which it stands is taken out.
-use Rattle.std.proofs.Common.{◌≡◌, ◌≢◌, inl, inr, ℕ, ◌<◌, ◌≤◌, List, [], ◌∷◌, ◌++◌, length, get_or}
-use Rattle.std.proofs.Common.{T, Option, Some, None, refl, sym, ap, subst, ◌∙◌, arith}
+use Rattle.std.proofs.Common.{◌≡◌, inl, inr, ℕ, ◌<◌, List, [], ◌∷◌, ◌++◌, length}
+use Rattle.std.proofs.Common.{T, Option, Some, refl, sym, ap, subst, ◌∙◌, arith}
 use Rattle.std.proofs.Common.{append_assoc, length-append, slice_get, set, ◌+◌}
 use Rattle.std.proofs.lemmas.List.{append-nil}
 use Rattle.std.specs.Prelude.{vec_capacity}
@@ -9,12 +9,11 @@ use Rattle.patricia_model.specs.Siblings.{prefixed, own, entries, IsCanonical}
 use Rattle.patricia_model.specs.Internal.Removals.{others}
 use Rattle.patricia_model.specs.Internal.LabelCmp.{Passes}
 use Rattle.std.specs.FinMap.{is_sorted}
-use Rattle.patricia_model.specs.Points.{Has}
 use Rattle.patricia_model.proofs.OrderLemmas.{entries_sorted}
 use Rattle.patricia_model.proofs.SiblingsLemmas.{prefixed-prefixed}
 use Rattle.patricia_nodes.specs.declared.arena.NodeArena.{NodeArena}
 use Rattle.patricia_nodes.specs.declared.arena.seek.LinkRef.{LinkRef}
-use Rattle.patricia_nodes.specs.declared.arena.seek.LinkRef.TheVariants.{Root, Child, Sibling}
+use Rattle.patricia_nodes.specs.declared.arena.seek.LinkRef.TheVariants.{Child, Sibling}
 use Rattle.patricia_nodes.specs.declared.arena.seek.Match.TheVariants.{Exact}
 use Rattle.patricia_nodes.specs.Internal.NodeVecs.{ReadsNode}
 use Rattle.patricia_nodes.specs.Internal.Plans.{Plan, Cell, head, siblings_in, plan_at, entries_of}
@@ -33,7 +32,7 @@ use Rattle.patricia_nodes.proofs.SeekLemmas.{Sought, sought_at}
 use Rattle.patricia_nodes.proofs.WriteLemmas.{holds_write}
 use Rattle.patricia_edits.specs.declared.pruning.Pruning.{Pruning}
 use Rattle.patricia_edits.specs.declared.pruning.Upper.{Upper}
-use Rattle.patricia_edits.specs.Internal.Prunings.{upper_at, uppers, ahead, passed, IsGone, HasLeft, HasRoom, StandsAtEntry}
+use Rattle.patricia_edits.specs.Internal.Prunings.{upper_at, uppers, passed, IsGone, HasLeft, HasRoom, StandsAtEntry}
 use Rattle.patricia_edits.specs.Internal.Removes.{IsPlaceOf, JoinsAbove, Removes}
 use Rattle.patricia_edits.proofs.EndLemmas.{passes_label, leads-fill}
 use Rattle.patricia_edits.proofs.PruneLemmas.{snoc_same, ahead_is, ahead_down, entries-fill}

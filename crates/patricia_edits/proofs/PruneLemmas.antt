@@ -1,22 +1,17 @@
 -- The steps of a walk that takes entries out where it stands.
-use Rattle.std.proofs.Common.{◌≡◌, ◌≢◌, inl, inr, ℕ, ◌+◌, ◌<◌, ◌≤◌, List, [], ◌∷◌, ◌++◌, length, get_or}
-use Rattle.std.proofs.Common.{Option, Some, None, slice_get, refl, sym, ap, subst, ◌∙◌, arith, T}
+use Rattle.std.proofs.Common.{◌≡◌, inl, ℕ, ◌≤◌, List, [], ◌∷◌, ◌++◌, length}
+use Rattle.std.proofs.Common.{Option, Some, None, refl, sym, ap, subst, ◌∙◌, arith}
 use Rattle.std.proofs.Common.{append_assoc, length-append}
 use Rattle.std.proofs.lemmas.List.{append-nil, append_cancel_left}
-use Rattle.std.specs.Prelude.{Bool, true, false, take, vec_capacity}
-use Rattle.std.specs.FinMap.{is_sorted}
-use Rattle.patricia_keys.specs.Keys.{IsKeyKind, IsValid, key_cmp}
+use Rattle.patricia_keys.specs.Keys.{IsKeyKind, IsValid}
 use Rattle.patricia_keys.proofs.KeyLemmas.{IsValid-append, IsValid-nil}
 use Rattle.patricia_model.specs.Points.{Has}
-use Rattle.patricia_model.specs.Siblings.{Siblings, node, prefixed, own, entries, keys_of, IsCanonical}
-use Rattle.patricia_model.specs.Internal.Removals.{others}
-use Rattle.patricia_model.proofs.OrderLemmas.{entries_sorted}
-use Rattle.patricia_model.proofs.PointLemmas.{has_after, nil_second}
+use Rattle.patricia_model.specs.Siblings.{prefixed, own, entries, keys_of, IsCanonical}
 use Rattle.patricia_model.proofs.SiblingsLemmas.{prefixed-append, prefixed-prefixed}
 use Rattle.patricia_model.proofs.UniqueLemmas.{has_entry}
 use Rattle.patricia_model.proofs.WalkLemmas.{prefixed-nil}
-use Rattle.patricia_nodes.specs.Internal.Plans.{Plan, Nil, Cell, siblings_in}
-use Rattle.patricia_nodes.specs.Internal.Places.{Frame, InChild, InSibling, fill, link_ref_of}
+use Rattle.patricia_nodes.specs.Internal.Plans.{Plan, Cell, siblings_in}
+use Rattle.patricia_nodes.specs.Internal.Places.{Frame, InChild, InSibling, fill}
 use Rattle.patricia_nodes.specs.Internal.Trails.{path_of}
 use Rattle.patricia_nodes.proofs.FillLemmas.{siblings-within}
 use Rattle.patricia_nodes.proofs.TrailLemmas.{filled_length}

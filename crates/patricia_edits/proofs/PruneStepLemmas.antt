@@ -1,5 +1,5 @@
 -- How far a walk that takes entries out has come, from step to step.
-use Rattle.std.proofs.Common.{◌≡◌, ◌≢◌, inl, inr, ℕ, ◌+◌, ◌<◌, ◌≤◌, List, [], ◌∷◌, ◌++◌, length, get_or}
+use Rattle.std.proofs.Common.{◌≡◌, inl, inr, ℕ, ◌+◌, ◌<◌, ◌≤◌, List, [], ◌∷◌, ◌++◌, length, get_or}
 use Rattle.std.proofs.Common.{Option, Some, None, slice_get, refl, sym, ap, subst, ◌∙◌, arith, take}
 use Rattle.std.proofs.Common.{append_assoc, length-append}
 use Rattle.std.proofs.lemmas.List.{append-nil, take_at}
@@ -9,7 +9,7 @@ use Rattle.std.specs.List.{All, AllByRecursion}
 use Rattle.std.proofs.lemmas.List.Elements.{recursion_from_All}
 use Rattle.patricia_keys.specs.Keys.{IsKeyKind}
 use Rattle.patricia_model.specs.Points.{Has}
-use Rattle.patricia_model.specs.Siblings.{prefixed, own, entries, keys_of, IsCanonical}
+use Rattle.patricia_model.specs.Siblings.{prefixed, own, keys_of, IsCanonical}
 use Rattle.patricia_store.specs.Internal.Nodes.{Node}
 use Rattle.patricia_nodes.specs.declared.arena.NodeArena.{NodeArena}
 use Rattle.patricia_nodes.specs.declared.arena.seek.LinkRef.{LinkRef}
@@ -29,8 +29,8 @@ use Rattle.patricia_nodes.proofs.SeekLemmas.{Opened, opened, head_within, whole_
 use Rattle.patricia_nodes.proofs.TrailLemmas.{filled_length}
 use Rattle.patricia_edits.specs.declared.pruning.Pruning.{Pruning}
 use Rattle.patricia_edits.specs.declared.pruning.Upper.{Upper}
-use Rattle.patricia_edits.specs.Internal.Prunings.{upper_at, uppers, behind, ahead, IsAt, HasRoom, HasLeft}
-use Rattle.patricia_edits.specs.Internal.Prunings.{FindsNext, StandsAtEntry, HasPassed, steps_left, steps_behind, sibling_of}
+use Rattle.patricia_edits.specs.Internal.Prunings.{upper_at, uppers, ahead, IsAt, HasRoom, HasLeft}
+use Rattle.patricia_edits.specs.Internal.Prunings.{FindsNext, HasPassed, steps_left, steps_behind, sibling_of}
 use Rattle.patricia_edits.proofs.PruneLemmas.{Above, above_is, behind_none, ahead_down, first_key, depth}
 
 -- where no node stands there is none
@@ -295,36 +295,6 @@ module _ {V : Type 0} (s : NodeArena V) (whole : IsWellFormed s) where
         (recursion_from_All (λ k. length k ≤ longest) (keys_of (entries_of s)) all) k has in
         (omega (arith, fits, path_room), omega (arith, fits, above_room));
   }
-
-  -- at the link to a place is the number of what is in it: at the top
-  pub root_head : (fs : List (Frame V)) (q : Plan V) → Root ≡ link_ref_of fs
-      → fill fs q ≡ plan_at s.nodes.items s.root → s.root ≡ head q
-  root_head [] q e fills = (whole_plan s whole).at_is ∙ ap head (sym fills)
-  root_head (InChild id l v d ∷ fs) q e fills = absurd (cc)
-  root_head (InSibling id l v c ∷ fs) q e fills = absurd (cc)
-
-  -- as a child
-  pub child_head : (id : ℕ) (fs : List (Frame V)) (q : Plan V) → Child id ≡ link_ref_of fs
-      → fill fs q ≡ plan_at s.nodes.items s.root → (n : Node V) → n ≡ get_or s.nodes.items id n
-      → n.child ≡ head q
-  child_head id [] q e fills n reads = absurd (cc)
-  child_head id (InChild i l v d ∷ fs) q e fills n reads =
-      let same : id ≡ i = cc in
-      ap (λ (m : Node V). m.child) (node_is s.nodes.items i n _ (laid_at s whole fs i l v q d fills)
-      (subst (λ k. n ≡ get_or s.nodes.items k n) same reads))
-  child_head id (InSibling i l v c ∷ fs) q e fills n reads = absurd (cc)
-
-  -- or as a sibling
-  pub sibling_head : (id : ℕ) (above : Option ℕ) (fs : List (Frame V)) (q : Plan V)
-      → Sibling id above ≡ link_ref_of fs
-      → fill fs q ≡ plan_at s.nodes.items s.root → (n : Node V) → n ≡ get_or s.nodes.items id n
-      → n.sibling ≡ head q
-  sibling_head id above [] q e fills n reads = absurd (cc)
-  sibling_head id above (InChild i l v d ∷ fs) q e fills n reads = absurd (cc)
-  sibling_head id above (InSibling i l v c ∷ fs) q e fills n reads =
-      let same : id ≡ i = cc in
-      ap (λ (m : Node V). m.sibling) (node_is s.nodes.items i n _ (laid_at s whole fs i l v c q fills)
-      (subst (λ k. n ≡ get_or s.nodes.items k n) same reads))
 
   -- the link to a place is in the vector
   pub link_within : (link_ref : LinkRef) (fs : List (Frame V)) (q : Plan V) → link_ref ≡ link_ref_of fs

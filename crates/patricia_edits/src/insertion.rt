@@ -4,6 +4,7 @@ ghost use Rattle.std.specs.Prelude.{IfOk, OnOk, IfErr, IfSome, OnErr, length};
 ghost use Rattle.std.specs.FinMap.{find};
 ghost use Rattle.patricia_keys.specs.Keys.{key_cmp};
 ghost use Rattle.patricia_model.specs.Siblings.{IsCanonical};
+ghost use Rattle.patricia_nodes.specs.declared.arena.seek.LinkRef.{LinkRef};
 ghost use Rattle.patricia_nodes.specs.declared.arena.seek.LinkRef.TheVariants.{Child, Sibling};
 ghost use Rattle.patricia_nodes.specs.declared.arena.seek.Match.TheVariants.{Absent, InsideLabel};
 ghost use Rattle.patricia_store.specs.Internal.Labels.{label_room, cut_room};
@@ -268,7 +269,7 @@ fn insert_missing<V: Drop, Q: BorrowedBytes>(
     ensures ok { OnOk result (IsPut arena.old arena.new (Q.key key) value) }
     ensures refused { IfErr result (λ r. r.value ≡ value) }
     ensures unchanged { OnErr result (siblings_of arena.new ≡ siblings_of arena.old) }
-    ensures trail { (trail : List (ℕ × ℕ))
+    ensures trail { (trail : List (LinkRef × ℕ))
         → IsPlaceBehind Q.Owned.item Q.key arena.old (Q.key key) place.now trail
         → IsTrail Q.Owned.item arena.new (Q.key key) trail }
 {
@@ -287,7 +288,7 @@ fn insert_missing<V: Drop, Q: BorrowedBytes>(
 /// node stays where it is.
 pub fn insert_along<V: Drop, Q: BorrowedBytes>(
     arena: &mut NodeArena<V>,
-    trail: &mut Vec<(NodeId, usize)>,
+    trail: &mut Vec<(LinkRef, usize)>,
     last: Option<Q>,
     key: Q,
     value: V,
@@ -322,7 +323,7 @@ pub fn insert_along<V: Drop, Q: BorrowedBytes>(
 /// another one. Free nodes are used first, and each node stays where it is.
 pub fn insert_new_along<V: Drop, Q: BorrowedBytes>(
     arena: &mut NodeArena<V>,
-    trail: &mut Vec<(NodeId, usize)>,
+    trail: &mut Vec<(LinkRef, usize)>,
     last: Option<Q>,
     key: Q,
     value: V,

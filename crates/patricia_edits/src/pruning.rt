@@ -44,21 +44,6 @@ pub struct Pruning {
     pub above: Vec<Upper>,
 }
 
-// The number that stands at a link.
-fn linked_at<V>(arena: &NodeArena<V>, link_ref: LinkRef) -> Link
-    requires whole { IsWellFormed arena.now }
-    requires within { LinkRefWithin link_ref (length arena.now.nodes.items) }
-    ensures { (frames : List (Frame V)) (focus : Plan V) → link_ref ≡ link_ref_of frames
-        → fill frames focus ≡ plan_at arena.now.nodes.items arena.now.root
-        → result ≡ head focus }
-{
-    match link_ref {
-        LinkRef::Root => arena.root,
-        LinkRef::Child(id) => arena.nodes.child(id),
-        LinkRef::Sibling(id, _) => arena.nodes.sibling(id),
-    }
-}
-
 impl Pruning {
     /// Makes a walk before the first entry, where no key has more bytes than these. The error is
     /// out of memory, never for 0 bytes.
@@ -98,7 +83,7 @@ impl Pruning {
     {
         let at = upper.at;
         self.link_ref = at.link_ref;
-        self.next = linked_at(arena, at.link_ref);
+        self.next = arena.linked_at(&at.link_ref);
         self.front = upper.front;
     }
 

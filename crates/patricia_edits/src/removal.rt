@@ -144,8 +144,8 @@ pub fn remove<V: Drop, Q: BorrowedBytes>(
     }
 }
 
-// Keeps of a trail the nodes that end before so many bytes.
-fn cut_before(trail: &mut Vec<(NodeId, usize)>, len: usize)
+// Keeps of a trail the places whose paths end before so many bytes.
+fn cut_before(trail: &mut Vec<(LinkRef, usize)>, len: usize)
     ensures { IsCutBefore len trail.old.items trail.new.items }
 {
     while let Some((_, end)) = trail.last() {
@@ -161,7 +161,7 @@ fn cut_before(trail: &mut Vec<(NodeId, usize)>, len: usize)
 /// its parent, which may have taken in its other child.
 pub fn remove_along<V: Drop, Q: BorrowedBytes>(
     arena: &mut NodeArena<V>,
-    trail: &mut Vec<(NodeId, usize)>,
+    trail: &mut Vec<(LinkRef, usize)>,
     last: Option<Q>,
     key: Q,
 ) -> Result<Option<V>, AllocError>

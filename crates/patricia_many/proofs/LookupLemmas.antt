@@ -42,7 +42,7 @@ is_at item kind s whole ok key (Some id) rest w = (
     at_is = w.at_is;
     leads = w.leads;
     rest_nonempty = w.rest_nonempty;
-    above = w.above;
+    passed = w.passed;
   },
 )
 

@@ -1,4 +1,5 @@
 pub mod AloneLemmas
+pub mod CountLemmas
 pub mod FillLemmas
 pub mod FreeLemmas
 pub mod GrowthLemmas

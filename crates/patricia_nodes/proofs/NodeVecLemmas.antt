@@ -5,17 +5,12 @@ use Rattle.std.specs.Prelude.{Option, None, is_some}
 use Rattle.std.specs.Borrow.{Bor}
 use Rattle.std.specs.Option.{option_copied}
 use Rattle.std.proofs.lemmas.Bool.{cases_lt}
-use Rattle.std.proofs.lemmas.Bool.Decides.{nat_tests}
-use Rattle.std.proofs.lemmas.Option.{slice_get_read, slice_get_cases, slice_get_within}
+use Rattle.std.proofs.lemmas.Option.{slice_get_read, slice_get_cases}
 use Rattle.std.proofs.lemmas.Option.{get_or_from_slice_get}
-use Rattle.patricia_store.specs.Internal.Heads.{byte_of, short_len_of}
+use Rattle.patricia_store.specs.Internal.Heads.{byte_of}
 use Rattle.patricia_store.specs.Internal.Nodes.{Node, Nodes}
 use Rattle.patricia_store.specs.Internal.Nodes.{IsRun as IsStoredRun}
 use Rattle.patricia_nodes.specs.Internal.NodeVecs.{ReadsNode, IsRun, value_in, with_valued}
-
--- a length below 63 is that of the label
-pub short_exact : (l : List ℕ) (n : ℕ) → n ≡ short_len_of l → n < 63 → length l ≡ n
-short_exact l n e less = grind (arith, nat_tests)
 
 module _ {V : Type 0} where
   -- below the length there is a node

@@ -27,10 +27,10 @@ use Rattle.patricia_nodes.specs.Internal.Places.{Leads, Matches}
 use Rattle.patricia_nodes.specs.Internal.Places.{MatchesAt, Placed, IsSeekResult}
 use Rattle.patricia_store.specs.Internal.Heads.{byte_of}
 use Rattle.patricia_nodes.specs.Internal.NodeVecs.{IsRun}
-use Rattle.patricia_nodes.specs.Internal.Trails.{AreAbove, PlacedBehind}
+use Rattle.patricia_nodes.specs.Internal.Trails.{ArePassed, PlacedBehind}
 use Rattle.patricia_nodes.specs.Internal.Writes.{Ready}
 use Rattle.patricia_nodes.proofs.NodeVecLemmas.{node_there}
-use Rattle.patricia_nodes.proofs.TrailLemmas.{above_deeper, filled_length}
+use Rattle.patricia_nodes.proofs.TrailLemmas.{passed_deeper, filled_length}
 use Rattle.patricia_nodes.proofs.PlanLemmas.{plan_is, plan_read, node_is}
 use Rattle.patricia_nodes.proofs.FillLemmas.{plan_within, siblings-within, find-fill, counted-fill}
 use Rattle.patricia_model.proofs.GetLemmas.{find_before, find_within, find_here}
@@ -38,9 +38,9 @@ use Rattle.patricia_model.proofs.MeetingLemmas.{before_by_first_byte}
 use Rattle.patricia_model.proofs.CountLemmas.{counted_end, counted_before, counted_within}
 use Rattle.patricia_model.proofs.CountLemmas.{counted_here}
 
--- the walk has come so far, with a step for each frame, past these nodes and maybe others
+-- the walk has come so far, with a step for each frame, past these places and maybe others
 pub record Walks (item : List ℕ → Type 0) {V : Type 0} (s : NodeArena V) (key : List ℕ)
-    (link_ref : LinkRef) (at : Option ℕ) (rest : List ℕ) (trail : List (ℕ × ℕ)) (start now : ℕ)
+    (link_ref : LinkRef) (at : Option ℕ) (rest : List ℕ) (trail : List (LinkRef × ℕ)) (start now : ℕ)
     : Type 0 where
   pub frames : List (Frame V)
   pub focus : Plan V
@@ -49,7 +49,7 @@ pub record Walks (item : List ℕ → Type 0) {V : Type 0} (s : NodeArena V) (ke
   pub at_is : at ≡ head focus
   pub leads : Leads item frames key rest
   pub rest_nonempty : rest ≢ []
-  pub above : AreAbove (reverse trail) frames
+  pub passed : ArePassed (reverse trail) frames
   pub ticked : now ≡ start + length frames
 
 -- nodes of a key kind, and the place of a key among them
@@ -159,11 +159,11 @@ module _ {item : List ℕ → Type 0} (kind : IsKeyKind item) {V : Type 0} {s : 
     at_is = (whole_plan s whole).at_is;
     leads = refl;
     rest_nonempty = some;
-    above = tt;
+    passed = tt;
     ticked = omega arith;
   }
 
-  module _ {link_ref : LinkRef} {at : Option ℕ} {rest : List ℕ} {trail : List (ℕ × ℕ)} {start now : ℕ} (w : Walks item s key link_ref at rest trail start now) where
+  module _ {link_ref : LinkRef} {at : Option ℕ} {rest : List ℕ} {trail : List (LinkRef × ℕ)} {start now : ℕ} (w : Walks item s key link_ref at rest trail start now) where
     -- what is read from the link that is reached is the plan in the place
     focus_plan : IsPlan s.nodes.items at w.focus
     focus_plan = plan_within s.nodes.items s.root at w.frames w.focus (rw w.fills (whole_plan s whole)) w.at_is
@@ -190,7 +190,7 @@ module _ {item : List ℕ → Type 0} (kind : IsKeyKind item) {V : Type 0} {s : 
       is_match = h;
     }
 
-    -- and the nodes that it has passed are above that
+    -- and the places that it has passed are on the way to that
     pub placed_behind : (matched : Match) → Matches item w.focus rest matched
         → PlacedBehind item s key link_ref at rest matched trail
     placed_behind matched h = record {
@@ -202,7 +202,7 @@ module _ {item : List ℕ → Type 0} (kind : IsKeyKind item) {V : Type 0} {s : 
         at_is = w.at_is;
         leads = w.leads;
         rest_nonempty = w.rest_nonempty;
-        above = w.above;
+        passed = w.passed;
       };
       is_match = h;
     }
@@ -224,7 +224,7 @@ module _ {item : List ℕ → Type 0} (kind : IsKeyKind item) {V : Type 0} {s : 
     pub ends_placed : at ≡ None → Placed item s key link_ref at rest Absent
     ends_placed e = let nil = nothing w.focus focus_plan e in placed Absent (rw nil refl)
 
-    -- the nodes that it has passed are above that
+    -- the places that it has passed are on the way to that
     pub ends_behind : at ≡ None → PlacedBehind item s key link_ref at rest Absent trail
     ends_behind e = let nil = nothing w.focus focus_plan e in placed_behind Absent (rw nil refl)
 
@@ -274,7 +274,7 @@ module _ {item : List ℕ → Type 0} (kind : IsKeyKind item) {V : Type 0} {s : 
           at_is = opens.sibling_plan.at_is;
           leads = (h, w.leads);
           rest_nonempty = w.rest_nonempty;
-          above = above_deeper (reverse trail) (InSibling id n.label n.value opens.child ∷ []) w.frames w.above;
+          passed = passed_deeper (reverse trail) (InSibling id n.label n.value opens.child ∷ []) w.frames w.passed;
           ticked = omega (arith, w.ticked);
         }
 
@@ -289,7 +289,7 @@ module _ {item : List ℕ → Type 0} (kind : IsKeyKind item) {V : Type 0} {s : 
           at_is = opens.child_plan.at_is;
           leads = (rest, h, some, w.leads);
           rest_nonempty = some;
-          above = above_deeper (reverse trail) (InChild id n.label n.value opens.sibling ∷ []) w.frames w.above;
+          passed = passed_deeper (reverse trail) (InChild id n.label n.value opens.sibling ∷ []) w.frames w.passed;
           ticked = omega (arith, w.ticked);
         }
 
@@ -335,14 +335,14 @@ behind_second link_ref from last less = elim (cases_eq from last) [
 
 -- a walk has passed siblings that lie behind one another, and is at a later one
 pub record WalksPast (item : List ℕ → Type 0) {V : Type 0} (s : NodeArena V) (key : List ℕ)
-    (link_ref : LinkRef) (from to : ℕ) (rest : List ℕ) (trail : List (ℕ × ℕ)) (start now : ℕ)
+    (link_ref : LinkRef) (from to : ℕ) (rest : List ℕ) (trail : List (LinkRef × ℕ)) (start now : ℕ)
     : Type 0 where
   pub walks : Walks item s key (ref_behind link_ref from to) (Some to) rest trail start now
   pub fewer : size (plan_at s.nodes.items (Some to)) ≤ size (plan_at s.nodes.items (Some from))
 
 module _ {item : List ℕ → Type 0} (kind : IsKeyKind item) {V : Type 0} {s : NodeArena V}
     {key : List ℕ} (whole : IsWellFormed s) (ok : IsCanonical item (siblings_of s)) {rest : List ℕ}
-    (valid : IsValid item rest) {trail : List (ℕ × ℕ)} {start : ℕ} where
+    (valid : IsValid item rest) {trail : List (LinkRef × ℕ)} {start : ℕ} where
   -- past a run of nodes, all of which come before the key, the walk is at its end
   walks_run : (k from to : ℕ) (link_ref : LinkRef) (now : ℕ) → to ≡ from + k
       → Walks item s key link_ref (Some from) rest trail start now

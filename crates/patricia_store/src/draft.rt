@@ -2,7 +2,7 @@
 ghost use Rattle.std.specs.Prelude.{◌≡◌, ◌+◌, ◌<◌, ℕ, List, Some, None, length};
 ghost use Rattle.std.specs.Prelude.{IfSome, vec_len, vec_capacity, slice_get, ◌++◌, ◌∷◌, []};
 ghost use Rattle.std.specs.Vec.{with_item};
-ghost use Rattle.patricia_store.specs.Internal.Packing.{most};
+ghost use Rattle.patricia_store.specs.Internal.Packing.{most, packed};
 ghost use Rattle.patricia_store.specs.Internal.Heads.{head_of};
 ghost use Rattle.patricia_store.specs.Internal.Labels.{label_in, IsSpan};
 ghost use Rattle.patricia_store.specs.Internal.Bodies.{span_in, value_in, body_of};
@@ -106,4 +106,20 @@ pub fn push<V>(heads: &mut Vec<Head>, bodies: &mut Vec<Body<V>>, labels: &Labels
     let next = heads.len() + 1;
     heads.push_reserved(Head::new(next, child, sibling, label, span.offset));
     bodies.push_reserved(Body::new(span, value));
+}
+
+/// Adds a node without label, value and links behind the last. Does not allocate.
+pub fn push_blank<V>(heads: &mut Vec<Head>, bodies: &mut Vec<Body<V>>)
+    requires in_heads { vec_len heads.old < vec_capacity heads.old }
+    requires in_bodies { vec_len bodies.old < vec_capacity bodies.old }
+    ensures heads { heads.new.items
+        ≡ heads.old.items ++ head_of (vec_len heads.old + 1) None None [] (packed 0) ∷ [] }
+    ensures bodies { bodies.new.items
+        ≡ bodies.old.items ++ body_of (record { len = 0; offset = packed 0 }) None ∷ [] }
+    ensures heads_capacity { vec_capacity heads.new ≡ vec_capacity heads.old }
+    ensures bodies_capacity { vec_capacity bodies.new ≡ vec_capacity bodies.old }
+{
+    let offset = Packed::new(0);
+    heads.push_reserved(Head::new(heads.len() + 1, None, None, &[], offset));
+    bodies.push_reserved(Body::new(Span { len: 0, offset }, None));
 }

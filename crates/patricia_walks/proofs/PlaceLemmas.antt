@@ -1,14 +1,10 @@
 -- What the place of a key among the nodes tells of the entries under it and of the common length.
 use Rattle.std.proofs.Common.{◌≡◌, ℕ, ◌+◌, ◌-◌, ◌≤◌, List, [], ◌∷◌, ◌++◌, length, Option, sym, ap}
 use Rattle.std.proofs.Common.{subst, ◌∙◌, arith}
-use Rattle.std.proofs.lemmas.List.{append_assoc, length-append}
-use Rattle.patricia_keys.specs.Keys.{IsKeyKind, IsValid}
-use Rattle.patricia_keys.proofs.KeyLemmas.{IsValid-nil, IsValid-append}
-use Rattle.patricia_model.specs.Prefixes.{IsReach, under}
-use Rattle.patricia_model.specs.Siblings.{Siblings, prefixed, own, entries, keys_of, IsCanonical}
-use Rattle.patricia_model.proofs.SiblingsLemmas.{prefixed-prefixed}
-use Rattle.patricia_model.proofs.WalkLemmas.{prefixed-nil}
-use Rattle.patricia_model.proofs.PrefixLemmas.{under_past, under_deeper}
+use Rattle.std.proofs.lemmas.List.{length-append}
+use Rattle.patricia_keys.specs.Keys.{IsKeyKind}
+use Rattle.patricia_model.specs.Prefixes.{IsReach}
+use Rattle.patricia_model.specs.Siblings.{own, entries, keys_of, IsCanonical}
 use Rattle.patricia_model.proofs.ReachLemmas.{Reaches, reaches_nothing, reaches_end, reaches_own}
 use Rattle.patricia_model.proofs.ReachLemmas.{reaches_past, reaches_before, reaches_within}
 use Rattle.patricia_model.proofs.ReachLemmas.{reaches_through, reach_is}

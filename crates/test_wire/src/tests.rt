@@ -3,6 +3,7 @@
 mod asserts;
 mod chains;
 mod claims;
+mod counts;
 mod damage;
 mod decimals;
 mod helpers;

@@ -56,6 +56,7 @@ module _ {V : Type 0} where
         → slice_get new id ≡ Some n
     pub long : length new ≡ length old
 
+  -- how many nodes there are, laid and blank
   abbrev pub made_of : Builder V → ℕ
   made_of b = length b.nodes.items
 

@@ -10,7 +10,7 @@ ghost use Rattle.patricia_core.specs.Internal.Stores.{IsFilled};
 use super::{Refused, Tree};
 use patricia_edits::insert_along;
 use patricia_keys::BorrowedBytes;
-use patricia_nodes::link::NodeId;
+use patricia_nodes::arena::seek::LinkRef;
 use patricia_nodes::parts::TreeParts;
 use patricia_walks::last::last;
 use std::alloc::AllocError;
@@ -21,7 +21,7 @@ use std::mem;
 // the last key, and the trail is that of this key then.
 pub(super) fn insert_behind<V: Drop, Q: BorrowedBytes>(
     tree: &mut TreeParts<V>,
-    trail: &mut Vec<(NodeId, usize)>,
+    trail: &mut Vec<(LinkRef, usize)>,
     last: Option<Q>,
     key: Q,
     value: V,
@@ -55,8 +55,8 @@ pub(super) fn insert_behind<V: Drop, Q: BorrowedBytes>(
     }
 }
 
-/// A tree that is filled with keys that are near one another: the look-up of each goes on from
-/// the nodes that the key before it has passed.
+/// A tree that is filled with keys that are near one another: the look-up of each that comes later
+/// than the key before it goes on at the last place that both pass.
 ///
 /// Its nodes stay where they are, in the order in which they were made: `settle` relocates them
 /// once it is a tree again.
@@ -65,8 +65,8 @@ pub struct Loader<Q: BorrowedBytes, V> {
     tree: TreeParts<V>,
     // the key that was looked up last, where there is a trail
     last: Option<Q>,
-    // a finger: the nodes that it has passed, each with how many of its bytes are passed there
-    trail: Vec<(NodeId, usize)>,
+    // a finger: the places that it has passed, each with the length of the path to it
+    trail: Vec<(LinkRef, usize)>,
 }
 
 impl<Q: BorrowedBytes, V> Model for Loader<Q, V> {

@@ -17,6 +17,7 @@ use patricia_edits::{insert_new_along, remove_along};
 use patricia_keys::keys::KeyBytes;
 use patricia_keys::{BorrowedBytes, Bytes};
 use patricia_nodes::arena::NodeArena;
+use patricia_nodes::arena::seek::LinkRef;
 use patricia_nodes::link::NodeId;
 use patricia_nodes::parts::TreeParts;
 use std::alloc::AllocError;
@@ -76,7 +77,7 @@ fn merge_at<V: Drop, F: FnMut(&mut V, V)>(arena: &mut NodeArena<V>, id: NodeId, 
 // key then.
 fn merge_behind<V: Drop, Q: BorrowedBytes, F: FnMut(&mut V, V)>(
     tree: &mut TreeParts<V>,
-    trail: &mut Vec<(NodeId, usize)>,
+    trail: &mut Vec<(LinkRef, usize)>,
     last: Option<Q>,
     key: Q,
     value: V,
@@ -118,7 +119,7 @@ fn merge_behind<V: Drop, Q: BorrowedBytes, F: FnMut(&mut V, V)>(
 // key, and the trail is that of this key then.
 fn remove_behind<V: Drop, Q: BorrowedBytes>(
     tree: &mut TreeParts<V>,
-    trail: &mut Vec<(NodeId, usize)>,
+    trail: &mut Vec<(LinkRef, usize)>,
     last: Option<Q>,
     key: Q,
 ) -> Result<Option<V>, AllocError>
@@ -147,8 +148,8 @@ fn remove_behind<V: Drop, Q: BorrowedBytes>(
 }
 
 /// A tree that entries are merged into or removed from, with keys that are near one another: the
-/// look-up of each goes on from the nodes that the key before it has passed. Keys are borrowed for
-/// one call each.
+/// look-up of each that comes later than the key before it goes on at the last place that both
+/// pass. Keys are borrowed for one call each.
 ///
 /// Its nodes stay where they are, in the order in which they were made: `settle` relocates them
 /// once it is a tree again.
@@ -157,8 +158,8 @@ pub struct Merger<K: Bytes, V> {
     tree: TreeParts<V>,
     // the key that was looked up last, or empty where there is no trail
     last: Vec<u8>,
-    // a finger: the nodes that it has passed, each with how many of its bytes are passed there
-    trail: Vec<(NodeId, usize)>,
+    // a finger: the places that it has passed, each with the length of the path to it
+    trail: Vec<(LinkRef, usize)>,
     kind: PhantomData<K>,
 }
 

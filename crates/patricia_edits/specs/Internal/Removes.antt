@@ -95,8 +95,8 @@ abbrev pub KeepsAboveAt : (List ℕ → Type 0) → {V : Type 0} → NodeArena V
 KeepsAboveAt item old new link_ref id =
     (key : List ℕ) → (p : IsPlaceOf item old key link_ref id) → KeepsAbove old new id p.1.frames
 
--- the trail was cut, and its last node ends before n bytes
-pub record IsCutBefore (n : ℕ) (old new : List (ℕ × ℕ)) : Type 0 where
-  pub cut : List (ℕ × ℕ)
+-- the trail was cut, and the path to its last place ends before n bytes
+pub record IsCutBefore (n : ℕ) (old new : List (LinkRef × ℕ)) : Type 0 where
+  pub cut : List (LinkRef × ℕ)
   pub is : reverse old ≡ cut ++ reverse new
-  pub before : (e : ℕ × ℕ) (es : List (ℕ × ℕ)) → reverse new ≡ e ∷ es → e.1 < n
+  pub before : (e : LinkRef × ℕ) (es : List (LinkRef × ℕ)) → reverse new ≡ e ∷ es → e.1 < n

@@ -4,7 +4,7 @@ use Rattle.std.specs.Prelude.{slice_index_or, ◌++◌, take, drop, length}
 use Rattle.patricia_store.specs.Internal.Labels.{joined_room}
 use Rattle.std.specs.Borrow.{LendsIf, Fml, RattleType, MutBor}
 use Rattle.patricia_store.specs.Internal.Heads.{byte_of}
-use Rattle.patricia_store.specs.Internal.Nodes.{Node, Nodes, KeepsRoom, linked}
+use Rattle.patricia_store.specs.Internal.Nodes.{Node, Nodes, linked}
 use Rattle.patricia_nodes.specs.declared.arena.node_vec.NodeVec.{NodeVec}
 use Rattle.patricia_nodes.specs.contracts.arena.node_vec.NodeVec.{the_row}
 

@@ -1,9 +1,8 @@
--- A finger: the nodes whose labels a look-up passes, kept for the look-up of another key.
+-- A finger: the places that a look-up passes, kept for the look-up of another key.
 use Rattle.std.specs.Prelude.{◌≡◌, ℕ, ◌≤◌, List, [], ◌∷◌, ◌++◌, length, reverse, ◌≢◌, ◌⊎◌, Option}
 use Rattle.patricia_nodes.specs.declared.arena.NodeArena.{NodeArena}
 use Rattle.patricia_nodes.specs.declared.arena.seek.SeekResult.{SeekResult}
 use Rattle.patricia_nodes.specs.declared.arena.seek.LinkRef.{LinkRef}
-use Rattle.patricia_nodes.specs.declared.arena.seek.LinkRef.TheVariants.{Child}
 use Rattle.patricia_nodes.specs.declared.arena.seek.Match.{Match}
 use Rattle.patricia_nodes.specs.Internal.Plans.{Plan, head, plan_at}
 use Rattle.patricia_nodes.specs.Internal.Places.{Frame, InChild, InSibling, fill, link_ref_of}
@@ -17,28 +16,28 @@ module _ {V : Type 0} where
   path_of (InChild id label value sibling ∷ fs) = path_of fs ++ label
   path_of (InSibling id label value child ∷ fs) = path_of fs
 
-  -- these nodes stand above a place, the innermost first, each with the length of the path to the
-  -- end of its label
-  abbrev pub AreAbove : List (ℕ × ℕ) → List (Frame V) → Type 0
-  AreAbove [] frames = Unit {0}
-  AreAbove (e ∷ es) frames =
+  -- these are a place and places that the way to it passes, or some of them, the innermost first,
+  -- each with the length of the path to it
+  abbrev pub ArePassed : List (LinkRef × ℕ) → List (Frame V) → Type 0
+  ArePassed [] frames = Unit {0}
+  ArePassed (e ∷ es) frames =
       (inner : List (Frame V)) × (mid : List (Frame V)) × (frames ≡ inner ++ mid)
-      × (link_ref_of mid ≡ Child e.0) × (e.1 ≡ length (path_of mid)) × AreAbove es mid
+      × (link_ref_of mid ≡ e.0) × (e.1 ≡ length (path_of mid)) × ArePassed es mid
 
--- nodes that a look-up of the key passes, the outermost first
+-- places that a look-up of the key passes, the outermost first
 pub record IsTrail (item : List ℕ → Type 0) {V : Type 0} (s : NodeArena V) (key : List ℕ)
-    (trail : List (ℕ × ℕ)) : Type 0 where
+    (trail : List (LinkRef × ℕ)) : Type 0 where
   pub frames : List (Frame V)
   pub focus : Plan V
   pub rest : List ℕ
   pub fills : fill frames focus ≡ plan_at s.nodes.items s.root
   pub leads : Leads item frames key rest
   pub rest_nonempty : rest ≢ []
-  pub above : AreAbove (reverse trail) frames
+  pub passed : ArePassed (reverse trail) frames
 
--- a look-up of the key has come to this link past these nodes, and this is left of it
+-- a look-up of the key has come to this link past these places, and this is left of it
 pub record HasCome (item : List ℕ → Type 0) {V : Type 0} (s : NodeArena V) (key : List ℕ)
-    (link_ref : LinkRef) (at : Option ℕ) (rest : List ℕ) (trail : List (ℕ × ℕ)) : Type 0 where
+    (link_ref : LinkRef) (at : Option ℕ) (rest : List ℕ) (trail : List (LinkRef × ℕ)) : Type 0 where
   pub frames : List (Frame V)
   pub focus : Plan V
   pub fills : fill frames focus ≡ plan_at s.nodes.items s.root
@@ -46,28 +45,28 @@ pub record HasCome (item : List ℕ → Type 0) {V : Type 0} (s : NodeArena V) (
   pub at_is : at ≡ head focus
   pub leads : Leads item frames key rest
   pub rest_nonempty : rest ≢ []
-  pub above : AreAbove (reverse trail) frames
+  pub passed : ArePassed (reverse trail) frames
 
--- the place of the key, past these nodes
+-- the place of the key, past these places
 pub record PlacedBehind (item : List ℕ → Type 0) {V : Type 0} (s : NodeArena V) (key : List ℕ)
-    (link_ref : LinkRef) (at : Option ℕ) (rest : List ℕ) (matched : Match) (trail : List (ℕ × ℕ))
-    : Type 0 where
+    (link_ref : LinkRef) (at : Option ℕ) (rest : List ℕ) (matched : Match)
+    (trail : List (LinkRef × ℕ)) : Type 0 where
   pub come : HasCome item s key link_ref at rest trail
   pub is_match : Matches item come.focus rest matched
 
 abbrev pub IsPlaceBehind : (List ℕ → Type 0) → {V Q : Type 0} → (Q → List ℕ) → NodeArena V
-    → List ℕ → SeekResult Q → List (ℕ × ℕ) → Type 0
+    → List ℕ → SeekResult Q → List (LinkRef × ℕ) → Type 0
 IsPlaceBehind item key_of s key place trail =
     PlacedBehind item s key place.link_ref place.at (key_of place.rest) place.matched trail
 
--- the trail was cut, and its last node ends within n bytes
-pub record IsCutTo (n : ℕ) (old new : List (ℕ × ℕ)) : Type 0 where
-  pub cut : List (ℕ × ℕ)
+-- the trail was cut, and the path to its last place ends within n bytes
+pub record IsCutTo (n : ℕ) (old new : List (LinkRef × ℕ)) : Type 0 where
+  pub cut : List (LinkRef × ℕ)
   pub is : reverse old ≡ cut ++ reverse new
-  pub within : (e : ℕ × ℕ) (es : List (ℕ × ℕ)) → reverse new ≡ e ∷ es → e.1 ≤ n
+  pub within : (e : LinkRef × ℕ) (es : List (LinkRef × ℕ)) → reverse new ≡ e ∷ es → e.1 ≤ n
 
--- the node is behind the trail, or was left out
-abbrev pub MayKeep : List (ℕ × ℕ) → ℕ × ℕ → List (ℕ × ℕ) → Type 0
+-- the place is behind the trail, or was left out
+abbrev pub MayKeep : List (LinkRef × ℕ) → LinkRef × ℕ → List (LinkRef × ℕ) → Type 0
 MayKeep old e new = (new ≡ old ++ e ∷ []) ⊎ (new ≡ old)
 
 -- what stands above a place and beside the way to it is as it was

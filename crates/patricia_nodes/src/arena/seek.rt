@@ -1,6 +1,6 @@
 //! The place of a key among the nodes.
 ghost use Rattle.std.specs.Prelude.{◌≡◌, ◌≢◌, ◌<◌, ◌≤◌, [], length, take, IfSome};
-ghost use Rattle.std.specs.Prelude.{slice_index_or};
+ghost use Rattle.std.specs.Prelude.{slice_index_or, List};
 ghost use Rattle.std.specs.Option.{option_copied};
 ghost use Rattle.std.specs.FinMap.{find};
 ghost use Rattle.patricia_keys.specs.Keys.{key_cmp, IsValid};
@@ -10,8 +10,11 @@ ghost use Rattle.patricia_model.specs.Internal.LabelCmp.{ComparesLabel};
 ghost use Rattle.patricia_store.specs.Internal.Heads.{byte_of};
 ghost use Rattle.patricia_nodes.specs.Internal.NodeVecs.{ReadsNode};
 ghost use Rattle.patricia_nodes.specs.Internal.Plans.{IsWellFormed, siblings_of, entries_of};
+ghost use Rattle.patricia_nodes.specs.Internal.Plans.{Plan, head, plan_at};
 ghost use Rattle.patricia_nodes.specs.Internal.Places.{IsSeekResult, node_of, node_under};
 ghost use Rattle.patricia_nodes.specs.Internal.Places.{node_above, ref_behind};
+ghost use Rattle.patricia_nodes.specs.Internal.Places.{Frame, fill, link_ref_of};
+ghost use Rattle.patricia_nodes.specs.Internal.Writes.{LinkRefWithin};
 
 mod trail;
 
@@ -163,6 +166,21 @@ impl<V> NodeArena<V> {
         match self.passed_len(id, bytes) {
             Some(len) => LabelCmp::Full(key.strip_n_prefix(len)),
             None => compare_label(key, self.nodes.label(id)),
+        }
+    }
+
+    /// The number that stands at a link.
+    pub fn linked_at(&self, link_ref: &LinkRef) -> Link
+        requires whole { IsWellFormed self.now }
+        requires within { LinkRefWithin link_ref.now (length self.now.nodes.items) }
+        ensures { (frames : List (Frame V)) (focus : Plan V) → link_ref.now ≡ link_ref_of frames
+            → fill frames focus ≡ plan_at self.now.nodes.items self.now.root
+            → result ≡ head focus }
+    {
+        match link_ref {
+            LinkRef::Root => self.root,
+            LinkRef::Child(id) => self.nodes.child(*id),
+            LinkRef::Sibling(id, _) => self.nodes.sibling(*id),
         }
     }
 

@@ -5,7 +5,7 @@ ghost use Rattle.patricia_store.specs.Internal.Labels.{label_room, joined_room};
 ghost use Rattle.patricia_store.specs.Internal.Nodes.{IsLink, linked, blank};
 
 use super::Store;
-use crate::draft::{Draft, push};
+use crate::draft::{Draft, push, push_blank};
 use crate::labels::{Labels, label_room};
 use crate::packed::MOST_NODES;
 use std::alloc::{AllocError, Global};
@@ -66,6 +66,17 @@ impl<V> Store<V> {
             value,
         };
         push(&mut self.heads, &mut self.bodies, &self.labels, node);
+    }
+}
+
+impl<V> Store<V> {
+    // Adds a node without label, value and links behind the last. Does not allocate.
+    fn push_blank_reserved(&mut self)
+        requires { length self.old.items < self.old.capacity }
+        ensures items { self.new.items ≡ self.old.items ++ blank ∷ [] }
+        ensures capacity { self.new.capacity ≡ self.old.capacity }
+    {
+        push_blank(&mut self.heads, &mut self.bodies);
     }
 }
 
@@ -208,7 +219,7 @@ impl<V: Drop> Store<V> {
         }
         let mut added = 0;
         while added < count {
-            self.push_reserved(&[], None, None, None);
+            self.push_blank_reserved();
             added += 1;
         }
         Ok(())

@@ -10,12 +10,12 @@ use std::alloc::{AllocError, Global};
 use std::process::Abort;
 
 // The keys bar, baz and foo.
-const THREE: [u8; 27] = [
+pub(super) const THREE: [u8; 27] = [
     12, 0, 0, 0, 60, 2, 0, 1, 98, 97, 51, 1, 0, 2, 114, 3, 1, 0, 2, 122, 3, 3, 0, 1, 102, 111, 111,
 ];
 
 // The same with wide levels.
-const WIDE_THREE: [u8; 37] = [
+pub(super) const WIDE_THREE: [u8; 37] = [
     12, 0, 0, 0, 0, 0, 60, 2, 0, 0, 0, 1, 98, 97, 51, 1, 0, 0, 0, 2, 114, 3, 1, 0, 0, 0, 2, 122, 3,
     3, 0, 0, 0, 1, 102, 111, 111,
 ];

@@ -129,7 +129,7 @@ returns-clause-trail g c =
     let total : passed + length (g.Q.BorrowedBytes.key c.seek_along-place.result.rest) ≡ length (g.Q.BorrowedBytes.key c.args.key) =
     omega (arith, path, ap length c.as_bytes.ensures.value, ap length c.as_bytes-2.ensures.value) in
     let is = here_stop _ c.in-Some.id (sym c.here.ensures ∙ c.in-Some.is) in
-    trail_before place g.met.Q.Owned.Bytes.lawful c.remove_at.new.arena c.in-Some.id passed
+    trail_before place c.remove_at.new.arena c.in-Some.id passed
     c.cut_before.new.trail.items total
     (c.in_ok-taken.ensures.around (g.Q.BorrowedBytes.key c.args.key) (place_of (placed_of place) is))
     c.cut_before.ensures

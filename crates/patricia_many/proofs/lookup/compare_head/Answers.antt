@@ -1,7 +1,8 @@
 use Rattle.std.proofs.Common.{◌≡◌, get_or, subst, arith}
 use Rattle.patricia_keys.specs.Keys.{IsValid}
 use Rattle.patricia_model.proofs.MeetingLemmas.{before_by_first_byte, passes_taken}
-use Rattle.patricia_nodes.proofs.NodeVecLemmas.{node_there, short_exact}
+use Rattle.patricia_store.proofs.HeadLemmas.{short_exact}
+use Rattle.patricia_nodes.proofs.NodeVecLemmas.{node_there}
 use Rattle.patricia_nodes.proofs.SeekLemmas.{byte_is}
 use Rattle.patricia_many.proofs.LookupLemmas.{one_byte}
 use Rattle.patricia_many.proofs.lookup.compare_head.Goals as goal

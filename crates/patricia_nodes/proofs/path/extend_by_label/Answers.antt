@@ -1,5 +1,5 @@
 use Rattle.std.proofs.Common.{◌≡◌, ◌≢◌, ℕ, List, [], ◌∷◌, ◌++◌, length, get_or, ap, ◌∙◌, arith}
-use Rattle.patricia_nodes.proofs.NodeVecLemmas.{short_exact}
+use Rattle.patricia_store.proofs.HeadLemmas.{short_exact}
 use Rattle.patricia_nodes.proofs.SeekLemmas.{byte_is}
 use Rattle.patricia_nodes.proofs.path.extend_by_label.Goals as goal
 

@@ -55,7 +55,7 @@ returns-then-is_none-clause-filled g c =
       fills = refl;
       leads = refl;
       rest_nonempty = c.requires.nonempty;
-      above = tt;
+      passed = tt;
     } in
     record { stored = c.requires.filled.stored; passed = rw c.clear.ensures.items none }
 

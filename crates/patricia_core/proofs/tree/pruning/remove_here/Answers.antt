@@ -1,4 +1,4 @@
-use Rattle.std.proofs.Common.{refl, sym, ap, subst, ◌∙◌, arith, length}
+use Rattle.std.proofs.Common.{ap, arith, length}
 use Rattle.patricia_edits.proofs.PruneGoneLemmas.{entry_counted}
 use Rattle.patricia_core.proofs.tree.pruning.remove_here.Goals as goal
 

@@ -1,4 +1,4 @@
-use Rattle.std.proofs.Common.{refl, sym, ap, ◌∙◌, arith}
+use Rattle.std.proofs.Common.{ap, arith}
 use Rattle.std.proofs.lemmas.List.{nil_from_length}
 use Rattle.patricia_edits.proofs.PruneStepLemmas.{climb_within, climbs, fewer_up, none_left}
 use Rattle.patricia_edits.proofs.pruning.Pruning.ascend.Goals as goal

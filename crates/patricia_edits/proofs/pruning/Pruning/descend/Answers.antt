@@ -1,8 +1,7 @@
-use Rattle.std.proofs.Common.{◌≡◌, ℕ, List, ◌+◌, ◌≤◌, ◌++◌, ◌-◌, length, length-append, take, refl, sym, ap, ◌∙◌, arith, if◌then◌else◌}
-use Rattle.std.specs.Prelude.{vec_len, vec_capacity, Result, Ok, Err, IsOk, is_ok}
+use Rattle.std.proofs.Common.{◌≡◌, ℕ, List, ◌++◌, length, length-append, refl, ap, ◌∙◌, arith, if◌then◌else◌}
+use Rattle.std.specs.Prelude.{Result, Ok, Err, IsOk, is_ok}
 use Rattle.patricia_nodes.specs.declared.arena.seek.LinkRef.TheVariants.{Child}
 use Rattle.patricia_nodes.proofs.NodeVecLemmas.{node_there}
-use Rattle.patricia_edits.specs.declared.pruning.Pruning.{Pruning}
 use Rattle.patricia_edits.proofs.PruneStepLemmas.{down_within, down_fits, goes_down, fewer_down}
 use Rattle.patricia_edits.proofs.pruning.Pruning.descend.Goals as goal
 

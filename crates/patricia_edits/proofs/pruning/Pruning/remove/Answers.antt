@@ -1,4 +1,4 @@
-use Rattle.std.proofs.Common.{◌≡◌, [], Some, None, refl, sym, ap, subst, ◌∙◌, arith, slice_get}
+use Rattle.std.proofs.Common.{refl, sym, ap, ◌∙◌, arith, slice_get}
 use Rattle.std.proofs.lemmas.List.{nil_from_length}
 use Rattle.patricia_edits.proofs.PruneGoneLemmas.{entry_place, entry_popped, entry_above, entry_gone, entry_stays}
 use Rattle.patricia_edits.proofs.PruneGoneLemmas.{entry_laid}

@@ -1,8 +1,8 @@
-use Rattle.std.proofs.Common.{◌≡◌, Some, None, refl, sym, ap, subst, ◌∙◌, arith}
+use Rattle.std.proofs.Common.{◌≡◌, sym, ap, subst, ◌∙◌, arith}
 use Rattle.std.proofs.lemmas.List.{nil_from_length}
 use Rattle.patricia_nodes.specs.declared.arena.seek.LinkRef.TheVariants.{Child, Sibling}
 use Rattle.patricia_edits.specs.Internal.Removes.{RestsAround}
-use Rattle.patricia_edits.proofs.PruneGoneLemmas.{StandsFor, gone_within, goes_there, some_above}
+use Rattle.patricia_edits.proofs.PruneGoneLemmas.{gone_within, goes_there, some_above}
 use Rattle.patricia_edits.proofs.PruneGoneLemmas.{upper_within, upper_link_within, goes_up, goes_past}
 use Rattle.patricia_edits.proofs.pruning.Pruning.settle.Goals as goal
 

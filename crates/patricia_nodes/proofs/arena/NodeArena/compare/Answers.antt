@@ -1,4 +1,4 @@
-use Rattle.std.proofs.Common.{subst, arith}
+use Rattle.std.proofs.Common.{subst}
 use Rattle.patricia_keys.specs.Keys.{IsValid}
 use Rattle.patricia_model.proofs.MeetingLemmas.{before_by_first_byte, passes_taken}
 use Rattle.patricia_nodes.proofs.NodeVecLemmas.{node_there}

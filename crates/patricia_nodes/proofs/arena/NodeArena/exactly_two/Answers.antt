@@ -1,4 +1,4 @@
-use Rattle.std.proofs.Common.{sym, ◌∙◌, arith}
+use Rattle.std.proofs.Common.{sym, ◌∙◌}
 use Rattle.patricia_nodes.proofs.SeekLemmas.{head_within}
 use Rattle.patricia_nodes.proofs.AloneLemmas.{second_within, pair_is, pair_not}
 use Rattle.patricia_nodes.proofs.NodeVecLemmas.{node_there}

@@ -1,5 +1,4 @@
-use Rattle.std.proofs.Common.{OnOk, subst, refl, sym, ap, ◌∙◌, arith, length}
-use Rattle.patricia_nodes.specs.Internal.Writes.{HasRoomFor, RoomFor}
+use Rattle.std.proofs.Common.{ap, arith, length}
 use Rattle.patricia_nodes.proofs.RoomLemmas.{on_ok_both, room_kept, room_behind}
 use Rattle.patricia_nodes.proofs.arena.NodeArena.extend.Goals as goal
 use Rattle.patricia_nodes.proofs.arena.NodeArena.extend.Goals.{then-has_room, else-has_room}

@@ -1,4 +1,4 @@
-use Rattle.std.proofs.Common.{sym, ◌∙◌, arith}
+use Rattle.std.proofs.Common.{sym, ◌∙◌}
 use Rattle.patricia_nodes.proofs.SeekLemmas.{sought_at, find_none, here_within}
 use Rattle.patricia_nodes.proofs.LoanLemmas.{has_node, has_none}
 use Rattle.patricia_nodes.proofs.NodeVecLemmas.{node_there, lent_some}

@@ -1,6 +1,4 @@
-use Rattle.std.proofs.Common.{length, ap, sym, subst, ◌∙◌, arith, length-set}
-use Rattle.patricia_nodes.specs.Internal.Writes.{IsWithin}
-use Rattle.patricia_nodes.specs.Internal.NodeVecs.{HasJoinedRoom}
+use Rattle.std.proofs.Common.{length, ap, ◌∙◌, arith, length-set}
 use Rattle.patricia_nodes.proofs.FreeLemmas.{lone_within}
 use Rattle.patricia_nodes.proofs.MergeLemmas.{holds_free, lone_child, lone_apart, joined_kept, absorbs}
 use Rattle.patricia_nodes.proofs.NodeVecLemmas.{node_there}

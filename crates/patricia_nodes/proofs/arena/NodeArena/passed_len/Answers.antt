@@ -2,7 +2,7 @@ use Rattle.std.proofs.Common.{length, take, sym, ap, ◌∙◌, arith}
 use Rattle.std.proofs.lemmas.Bool.Decides.{Decides-eqb}
 use Rattle.std.proofs.lemmas.List.{take_all, length-take-le}
 use Rattle.std.proofs.lemmas.Slice.Eq.{slice_eq-Decides}
-use Rattle.patricia_nodes.proofs.NodeVecLemmas.{short_exact}
+use Rattle.patricia_store.proofs.HeadLemmas.{short_exact}
 use Rattle.patricia_nodes.proofs.NodeVecLemmas.{node_there}
 use Rattle.patricia_nodes.proofs.arena.NodeArena.passed_len.Goals as goal
 

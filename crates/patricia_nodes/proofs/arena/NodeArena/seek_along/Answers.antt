@@ -1,5 +1,5 @@
 use Rattle.std.proofs.Common.{◌+◌, ◌-◌, length, refl, sym, ap, ◌∙◌, arith}
-use Rattle.patricia_nodes.proofs.ResumeLemmas.{walks_on, walks_maybe, left_within}
+use Rattle.patricia_nodes.proofs.ResumeLemmas.{walks_on, walks_kept, placed_kept, left_short}
 use mathlib.Core.Bool.{false≢true}
 use Rattle.patricia_nodes.specs.declared.arena.seek.Match.TheVariants.{Absent, InsideLabel, Exact}
 use Rattle.patricia_nodes.proofs.SeekLemmas.{stops_behind, ends_behind}
@@ -15,7 +15,7 @@ use Rattle.patricia_nodes.proofs.arena.NodeArena.seek_along.Goals.{in-Some+in-Fu
 
 pub loop-first-init : goal.loop-first-init
 loop-first-init g c =
-    let come = rw c.deref.ensures.value at c.resume-link_ref.ensures in
+    let come = c.resume-link_ref.ensures in
     (length come.frames, walks_on come)
 
 pub run-id-requires : goal.run-id-requires
@@ -101,18 +101,15 @@ loop-first-preserved-in-After g c =
     let reads = (node_there _ _ (in_nodes g.met.Q.Owned.Bytes.lawful c.requires.whole c.requires.siblings w refl)).1 in
     (c.loop-first.invariant.0 + (c.run-id.result - c.in-Some.first) + 1, rw (c.sibling-at.ensures.node _ reads) (walks_next g.met.Q.Owned.Bytes.lawful c.requires.whole c.requires.siblings w refl reads _ refl _ (c.above.ensures ∙ ap node_above c.behind-link_ref.ensures) (c.in-After.ensures _ reads)))
 
-pub overflow_sub-as_bytes : goal.overflow_sub-as_bytes
-overflow_sub-as_bytes g c =
-    let is = sym c.get.ensures ∙ c.in-Some.is in
-    let run = rw c.as_bytes.ensures.value at c.run-id.ensures.run in
-    let valid = c.as_bytes.ensures.valid in
-    let w = walks_past g.met.Q.Owned.Bytes.lawful c.requires.whole c.requires.siblings valid c.loop-first.invariant.1 is c.run-id.result run in
-    let reads = (node_there _ _ (in_nodes g.met.Q.Owned.Bytes.lawful c.requires.whole c.requires.siblings w refl)).1 in
-    let left = left_within g.Q.Owned.Bytes.item w.frames (g.Q.BorrowedBytes.key c.args.key)
-    (g.Q.BorrowedBytes.key c.loop-first.rest) _ (g.Q.BorrowedBytes.key c.in-Full.left) w.leads (c.in-Full.ensures _ reads) in
-    let all = ap length c.as_bytes-in-Full.ensures.value in
-    let some = ap length c.as_bytes-in-Full-2.ensures.value in
-    omega (arith, left, all, some)
+pub passed-end-requires : goal.passed-end-requires
+passed-end-requires g c =
+    let w = c.loop-first.invariant.1 in
+    left_short g.Q.Owned.Bytes.item w.frames (g.Q.BorrowedBytes.key c.args.key) (g.Q.BorrowedBytes.key c.loop-first.rest) w.leads
+
+pub passed-end-requires-2 : goal.passed-end-requires-2
+passed-end-requires-2 g c =
+    let w = c.loop-first.invariant.1 in
+    left_short g.Q.Owned.Bytes.item w.frames (g.Q.BorrowedBytes.key c.args.key) (g.Q.BorrowedBytes.key c.loop-first.rest) w.leads
 
 pub loop-first-preserved : goal.loop-first-preserved
 loop-first-preserved g c =
@@ -120,43 +117,44 @@ loop-first-preserved g c =
     let run = rw c.as_bytes.ensures.value at c.run-id.ensures.run in
     let valid = c.as_bytes.ensures.valid in
     let w = walks_past g.met.Q.Owned.Bytes.lawful c.requires.whole c.requires.siblings valid c.loop-first.invariant.1 is c.run-id.result run in
+    let kept = walks_kept c.passed-end.result c.keep.new.trail.items (rw c.behind-link_ref.ensures at c.keep.ensures) c.passed-end.ensures w in
     let reads = (node_there _ _ (in_nodes g.met.Q.Owned.Bytes.lawful c.requires.whole c.requires.siblings w refl)).1 in
     let met = c.in-Full.ensures _ reads in
-    let down = walks_down g.met.Q.Owned.Bytes.lawful c.requires.whole c.requires.siblings w refl reads _ refl _ met
+    let down = walks_down g.met.Q.Owned.Bytes.lawful c.requires.whole c.requires.siblings kept refl reads _ refl _ met
     (λ none. absurd (false≢true (c.if-is_empty.ensures.1 none))) in
-    let left = left_within g.Q.Owned.Bytes.item w.frames (g.Q.BorrowedBytes.key c.args.key)
-    (g.Q.BorrowedBytes.key c.loop-first.rest) _ (g.Q.BorrowedBytes.key c.in-Full.left) w.leads met in
-    let all = ap length c.as_bytes-in-Full.ensures.value in
-    let some = ap length c.as_bytes-in-Full-2.ensures.value in
-    (c.loop-first.invariant.0 + (c.run-id.result - c.in-Some.first) + 1, rw (c.child-at.ensures.node _ reads) (walks_maybe down _ _ c.keep.ensures (omega (arith, left, all, some))))
+    (c.loop-first.invariant.0 + (c.run-id.result - c.in-Some.first) + 1, rw (c.child-at.ensures.node _ reads) down)
 
 pub returns : goal.returns
 returns g c =
     rw (c.new.ensures.link_ref, c.new.ensures.at, c.new.ensures.rest, c.new.ensures.matched) (elim c.match-get.branch [
       | in_default w ↦ rw (w.matched-is, w.link_ref-is, w.at-is)
+          (placed_kept c.passed-end-2.result c.keep-2.new.trail.items (rw w.link_ref-is at c.keep-2.ensures) c.passed-end-2.ensures
           (ends_behind g.met.Q.Owned.Bytes.lawful c.requires.whole c.requires.siblings
-          c.loop-first.invariant.1 (sym c.get.ensures ∙ w.in_default.is))
+          c.loop-first.invariant.1 (sym c.get.ensures ∙ w.in_default.is)))
       | in-Some+in-Before w ↦
           let is = sym c.get.ensures ∙ w.in-Some.is in
           let run = rw w.as_bytes.ensures.value at w.run-id.ensures.run in
           let p = walks_past g.met.Q.Owned.Bytes.lawful c.requires.whole c.requires.siblings w.as_bytes.ensures.valid c.loop-first.invariant.1 is w.run-id.result run in
           let reads = (node_there _ _ (in_nodes g.met.Q.Owned.Bytes.lawful c.requires.whole c.requires.siblings p refl)).1 in
           rw (w.matched-is, w.link_ref-is, w.at-is, w.some-at.ensures, w.behind-link_ref.ensures)
-          (stops_behind g.met.Q.Owned.Bytes.lawful c.requires.whole c.requires.siblings p refl reads Absent (w.in-Before.ensures _ reads))
+          (placed_kept c.passed-end-2.result c.keep-2.new.trail.items (rw (w.link_ref-is, w.behind-link_ref.ensures) at c.keep-2.ensures) c.passed-end-2.ensures
+          (stops_behind g.met.Q.Owned.Bytes.lawful c.requires.whole c.requires.siblings p refl reads Absent (w.in-Before.ensures _ reads)))
       | in-Some+in-Partial w ↦
           let is = sym c.get.ensures ∙ w.in-Some.is in
           let run = rw w.as_bytes.ensures.value at w.run-id.ensures.run in
           let p = walks_past g.met.Q.Owned.Bytes.lawful c.requires.whole c.requires.siblings w.as_bytes.ensures.valid c.loop-first.invariant.1 is w.run-id.result run in
           let reads = (node_there _ _ (in_nodes g.met.Q.Owned.Bytes.lawful c.requires.whole c.requires.siblings p refl)).1 in
           rw (w.matched-is, w.link_ref-is, w.at-is, w.some-at.ensures, w.behind-link_ref.ensures)
+          (placed_kept c.passed-end-2.result c.keep-2.new.trail.items (rw (w.link_ref-is, w.behind-link_ref.ensures) at c.keep-2.ensures) c.passed-end-2.ensures
           (stops_behind g.met.Q.Owned.Bytes.lawful c.requires.whole c.requires.siblings p refl reads
-          (InsideLabel w.run-id.result w.in-Partial.n) (refl, w.in-Partial.ensures _ reads))
+          (InsideLabel w.run-id.result w.in-Partial.n) (refl, w.in-Partial.ensures _ reads)))
       | in-Some+in-Full+then-is_empty w ↦
           let is = sym c.get.ensures ∙ w.in-Some.is in
           let run = rw w.as_bytes.ensures.value at w.run-id.ensures.run in
           let p = walks_past g.met.Q.Owned.Bytes.lawful c.requires.whole c.requires.siblings w.as_bytes.ensures.valid c.loop-first.invariant.1 is w.run-id.result run in
           let reads = (node_there _ _ (in_nodes g.met.Q.Owned.Bytes.lawful c.requires.whole c.requires.siblings p refl)).1 in
           rw (w.matched-is, w.link_ref-is, w.at-is, w.some-at.ensures, w.behind-link_ref.ensures)
+          (placed_kept c.passed-end-2.result c.keep-2.new.trail.items (rw (w.link_ref-is, w.behind-link_ref.ensures) at c.keep-2.ensures) c.passed-end-2.ensures
           (stops_behind g.met.Q.Owned.Bytes.lawful c.requires.whole c.requires.siblings p refl reads
-          (Exact w.run-id.result) (refl, rw (w.if-is_empty.ensures.0 refl) at w.in-Full.ensures _ reads))
+          (Exact w.run-id.result) (refl, rw (w.if-is_empty.ensures.0 refl) at w.in-Full.ensures _ reads)))
     ])

@@ -1,4 +1,4 @@
-use Rattle.std.proofs.Common.{length, ap, sym, ◌∙◌, arith, length-set}
+use Rattle.std.proofs.Common.{length, ap, ◌∙◌, length-set}
 use Rattle.patricia_nodes.proofs.FreeLemmas.{leaf_within, spot_of_leaf, unlinks}
 use Rattle.patricia_nodes.proofs.MergeLemmas.{holds_free, leaf_sibling}
 use Rattle.patricia_nodes.proofs.NodeVecLemmas.{node_there, reads_there}

@@ -1,4 +1,4 @@
-use Rattle.std.proofs.Common.{sym, ◌∙◌, arith}
+use Rattle.std.proofs.Common.{sym, ◌∙◌}
 use Rattle.patricia_nodes.proofs.PlanLemmas.{not_some}
 use Rattle.patricia_nodes.proofs.AloneLemmas.{some_not_none, alone_top, upper_within, inside}
 use Rattle.patricia_nodes.proofs.AloneLemmas.{inside_plan, alone_valued, alone_more, alone_first}

@@ -1,10 +1,10 @@
-use Rattle.std.proofs.Common.{OnOk, OnErr, ◌≡◌, ◌≢◌, ◌≤◌, List, ℕ, [], length, inl, inr, sym, ap, subst, refl, ◌∙◌}
+use Rattle.std.proofs.Common.{OnOk, OnErr, ◌≢◌, [], inl, inr, sym, ap, subst, refl, ◌∙◌}
 use Rattle.std.proofs.lemmas.Result.{on_err_weaker}
 use Rattle.std.specs.FinMap as map
 use Rattle.std.specs.List.{FoldsTo}
 use Rattle.patricia_core.specs.Internal.Pruners.{PrunerView}
 use Rattle.patricia_tree.specs.Retains.{IsRetainStopped, RetainsAll, RetainsEntry}
-use Rattle.patricia_tree.proofs.AfterLemmas.{at_error, no_entries, some_entries}
+use Rattle.patricia_tree.proofs.AfterLemmas.{no_entries, some_entries}
 use Rattle.patricia_tree.proofs.map.GenericPatriciaMap.retain.Goals as goal
 
 pub returns-then-is_empty-clause-retained : goal.returns-then-is_empty-clause-retained

@@ -1,4 +1,4 @@
-use Rattle.std.proofs.Common.{◌≡◌, [], ◌∷◌, List, ℕ, refl, length, ap, sym, subst, ◌∙◌, arith}
+use Rattle.std.proofs.Common.{◌∷◌, length, ap, sym, subst, ◌∙◌, arith}
 use Rattle.patricia_tree.proofs.AfterLemmas.{at_error}
 use Rattle.patricia_tree.proofs.ChoiceLemmas.{IsRetaining, retaining_starts, retaining_on, retaining_stops}
 use Rattle.patricia_tree.proofs.ChoiceLemmas.{retaining_filled, retaining_ends}

@@ -1,4 +1,4 @@
-use Rattle.std.proofs.Common.{◌≡◌, Some, ap}
+use Rattle.std.proofs.Common.{◌≡◌, Some}
 use Rattle.patricia_tree.proofs.map.visits.call_at.Goals as goal
 
 pub returns-in-Some-Some-clause-called : goal.returns-in-Some-Some-clause-called

@@ -1,4 +1,4 @@
-use Rattle.std.proofs.Common.{◌≡◌, List, ℕ, [], Some, refl, sym, ap, subst, ◌∙◌}
+use Rattle.std.proofs.Common.{[], Some, refl, sym, ap, subst, ◌∙◌}
 use Rattle.patricia_core.specs.Internal.Pruners.{PrunerView}
 use Rattle.patricia_core.specs.Internal.Pruning.{IsPruned, all_of, left_at}
 use Rattle.patricia_core.proofs.PruningLemmas.{come_left, goes_to_empty, goes_to_node}

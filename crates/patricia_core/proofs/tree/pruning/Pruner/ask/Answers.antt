@@ -1,4 +1,4 @@
-use Rattle.std.proofs.Common.{◌≡◌, List, ℕ, [], Some, None, refl, sym, ap, subst, ◌∙◌}
+use Rattle.std.proofs.Common.{Some, sym, ap, subst, ◌∙◌}
 use Rattle.patricia_model.specs.Cursors.{after}
 use Rattle.patricia_core.specs.Asks.{IsAskedAtEntry}
 use Rattle.patricia_core.specs.Internal.Pruners.{PrunerView}

@@ -1,4 +1,4 @@
-use Rattle.std.proofs.Common.{length, ap, arith}
+use Rattle.std.proofs.Common.{arith}
 use Rattle.patricia_nodes.proofs.NodeVecLemmas.{run_asked, run_given}
 use Rattle.patricia_nodes.proofs.arena.node_vec.NodeVec.run.Goals as goal
 
