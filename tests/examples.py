@@ -83,10 +83,10 @@ def read(path):
 
 
 def files(path):
-    """A file, or those of a folder."""
+    """A file, or those of a folder and the folders there."""
     if path.endswith('.rt'):
         return [path]
-    return ['%s/%s' % (path, x) for x in sorted(os.listdir(os.path.join(CRATES, path)))]
+    return [file for x in sorted(os.listdir(os.path.join(CRATES, path))) for file in files('%s/%s' % (path, x))]
 
 
 def inside(text, at):

@@ -72,6 +72,12 @@ def set_calls(of, kind):
         yield 'load ' + ' '.join(in_order(words(of, kind, 6)))
 
 
+def made_in_order(of, kind):
+    """The words that a map or a set is made of, in order throughout, and at first."""
+    yield in_order(words(of, kind, 60))
+    yield in_order(words(of, kind, 30)) + words(of, kind, 8)
+
+
 def main():
     of = random.Random(11)
     for kind in ITEMS:
@@ -79,6 +85,10 @@ def main():
             print(kind, call)
         for call in set_calls(of, kind):
             print(kind + '_set', call)
+    for kind in ITEMS:
+        for made in made_in_order(of, kind):
+            print(kind, 'from_iter ' + numbered(of, made))
+            print(kind + '_set', 'from_iter ' + ' '.join(made))
 
 
 if __name__ == '__main__':

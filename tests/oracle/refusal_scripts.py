@@ -156,6 +156,9 @@ LINED_UP = ['', FRONT, FRONT + ', and that of another', 'bar', 'baz']
 # The same without the empty one, and one more.
 LINED_UP_ELEMENTS = [*LINED_UP[1:], 'foo']
 
+# Keys in order, and two that are not behind those before them.
+AT_FIRST_IN_ORDER = [*LINED_UP, 'baa', FRONT + ' at first']
+
 # A new key.
 NEW = elements(['another prefix that is longer than what a node keeps'])
 
@@ -253,6 +256,7 @@ MAP_SCRIPTS = [
     ['from_iter ' + pairs(JOINED), 'retain 7', 'retain 11', 'same ' + pairs(JOINED)],
     *map(changed_map, NAMED),
     ['from_iter ' + pairs(LINED_UP), *ASKED_IN_LINE, 'same ' + pairs(LINED_UP)],
+    ['from_iter ' + pairs(AT_FIRST_IN_ORDER)],
     *[['from_iter ' + pairs(LINED_UP), *calls] for calls in POPS],
     ['from_iter ' + pairs(LINED_UP), *one_by_one('fill', [NEW + ' 7', NEW + ' 9']),
      *one_by_one('get_or_insert', ['x 8', '* 3', NEW + '%20 4'])],
@@ -284,6 +288,7 @@ SET_SCRIPTS = [
     *map(changed_set, NAMED),
     [*of_two(ONE, TWO), *of_two(TWO, ONE), *of_two(TWO, FEW), 'itself'],
     ['from_iter ' + elements(LINED_UP_ELEMENTS), *ASKED_IN_LINE],
+    ['from_iter ' + elements(AT_FIRST_IN_ORDER)],
     *[['from_iter ' + elements(LINED_UP_ELEMENTS), *calls] for calls in POPS],
     ['from_iter ' + elements(LINED_UP_ELEMENTS), *one_by_one('cut', ['a'])],
     ['from_iter ' + elements([*LINED_UP_ELEMENTS, 'ab']), *one_by_one('retain', ['3', '50'])],

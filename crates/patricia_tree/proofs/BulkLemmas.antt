@@ -1,6 +1,6 @@
 -- Pairs inserted one after the other.
-use Rattle.std.proofs.Common.{◌≡◌, ◌≢◌, ℕ, List, [], ◌∷◌, ◌++◌, Option, Some, None, Result, Ok, Err}
-use Rattle.std.proofs.Common.{OnErr, refl, sym, ap, ◌∙◌}
+use Rattle.std.proofs.Common.{◌≡◌, ◌≢◌, ℕ, List, [], ◌∷◌, ◌++◌, Option, Some, None}
+use Rattle.std.proofs.Common.{refl, sym, ap, ◌∙◌}
 use Rattle.std.proofs.iter.Next.{Yields-more}
 use Rattle.std.specs.FinMap as map
 use Rattle.std.specs.Iterator.{Yields}
@@ -40,9 +40,3 @@ stops_at {steps = steps} {bytes = bytes} start at rest given pair is_start gave 
   is_nonempty = nonempty;
   is_new = ap (λ m. map.get m (bytes pair.0)) same ∙ absent;
 }
-
--- what holds of some value holds of one at an error
-pub of_some_at_error : {A B E : Type 0} (P : B → Type 0) (r : Result A E) (some : B) → P some
-    → OnErr r ((b : B) × P b)
-of_some_at_error P (Ok x) some p = tt
-of_some_at_error P (Err e) some p = (some, p)

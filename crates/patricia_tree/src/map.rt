@@ -13,7 +13,7 @@ ghost use Rattle.patricia_core.specs.TreeBytes.{AreTreeBytes};
 ghost use Rattle.patricia_core.specs.Faults.{IsRefusal};
 ghost use Rattle.patricia_core.specs.Writings.{Means, TooDeep};
 
-mod bulk;
+pub(crate) mod bulk;
 mod changes;
 mod collects;
 mod cursors;

@@ -5,7 +5,10 @@ ghost use Rattle.std.specs.FinMap as map;
 ghost use Rattle.patricia_core.specs.Keys.{key_cmp};
 ghost use Rattle.patricia_tree.specs.Bulk.{Extends, IsStoppedAt};
 
+pub(crate) mod filling;
+
 use super::GenericPatriciaMap;
+use filling::Filling;
 use patricia_core::keys::{BorrowedBytes, Bytes};
 use std::alloc::{AllocError, Global};
 use std::iter::{IntoIterator, Iterator};
@@ -74,7 +77,8 @@ impl<K: Bytes, V: Drop> GenericPatriciaMap<K, V> {
     /// Makes a map of pairs, inserted one after the other: of two values for one key the later
     /// stays. The iterator must end.
     ///
-    /// Takes the time of an `insert` for each pair.
+    /// Takes the time of an `insert` for each pair, and while keys come in order that of
+    /// `sorted_load`.
     ///
     /// # Errors
     ///
@@ -97,8 +101,14 @@ impl<K: Bytes, V: Drop> GenericPatriciaMap<K, V> {
         ensures err { OnErr result ((left : map.FinMap key_cmp V)
             × IsStoppedAt I.into_iter_gives I.IntoIter.next_gives Q.key pairs map.empty left) }
     {
-        let mut map = GenericPatriciaMap::new(alloc);
-        map.extend(pairs)?;
-        Ok(map)
+        let mut rest = pairs.into_iter();
+        let mut filling = Filling::new(alloc);
+        while let Some((key, value)) = rest.next() {
+            match filling.put(key, value) {
+                Ok(filled) => filling = filled,
+                Err(error) => return Err(error),
+            }
+        }
+        Ok(filling.into_map())
     }
 }

@@ -151,7 +151,7 @@ impl<K: Bytes, V: Drop> GenericPatriciaMap<K, V> {
     /// Removes the first entry in key order, and returns it, or `None` where there is none.
     ///
     /// Takes one descent, with time in proportion to the nodes on the way and to the bytes of the
-    /// key.
+    /// key. `into_iter` takes all entries out in less.
     ///
     /// # Errors
     ///
@@ -179,7 +179,7 @@ impl<K: Bytes, V: Drop> GenericPatriciaMap<K, V> {
     /// Removes the last entry in key order, and returns it, or `None` where there is none.
     ///
     /// Takes one descent, with time in proportion to the nodes on the way, siblings among them, and
-    /// to the bytes of the key.
+    /// to the bytes of the key. `into_iter` takes all entries out in less.
     ///
     /// # Errors
     ///

@@ -41,7 +41,7 @@ impl From<AllocError> for LoadError {
 }
 
 // Whether a key comes before another one.
-fn comes_before(first: &[u8], second: &[u8]) -> bool
+pub(crate) fn comes_before(first: &[u8], second: &[u8]) -> bool
     ensures { IsTrue result ↔ (key_cmp first.now second.now ≡ Less) }
 {
     first.cmp(second) == Ordering::Less
@@ -126,9 +126,9 @@ impl<K: Bytes, V: Drop> GenericPatriciaMap<K, V> {
     /// Puts pairs in key order behind the entries: each key must come after those before it, and
     /// after those of the map. The iterator must end.
     ///
-    /// The look-up of each key goes on from the nodes that the key before it has passed. The last
-    /// key of the map is looked up once, as by `last_key_value`. Nodes are relocated at the end
-    /// alone, where the map has more than doubled, if memory is there for it.
+    /// The look-up of each key goes on at the last place that the key before it has passed, too.
+    /// The last key of the map is looked up once, as by `last_key_value`. Nodes are relocated at
+    /// the end alone, where the map has more than doubled, if memory is there for it.
     ///
     /// # Errors
     ///

@@ -70,9 +70,9 @@ impl<K: Bytes, V: Drop> GenericPatriciaMap<K, V> {
     /// value here and the one from there, and what it leaves here stays. It is called in key
     /// order.
     ///
-    /// Takes a walk over the other map. The look-up of each of its keys goes on from the nodes that
-    /// the key before it has passed. Nodes are relocated at the end alone, where the map has more
-    /// than doubled, if memory is there for it.
+    /// Takes a walk over the other map. The look-up of each of its keys goes on at the last place
+    /// that the key before it has passed, too. Nodes are relocated at the end alone, where the map
+    /// has more than doubled, if memory is there for it.
     ///
     /// # Errors
     ///

@@ -5,6 +5,7 @@ ghost use Rattle.std.specs.FinMap as map;
 ghost use Rattle.patricia_tree.specs.Sets.{Extends, IsStoppedAt, KeySet};
 
 use super::GenericPatriciaSet;
+use crate::map::bulk::filling::Filling;
 use patricia_core::keys::{BorrowedBytes, Bytes};
 use std::alloc::{AllocError, Global};
 use std::iter::{IntoIterator, Iterator};
@@ -63,7 +64,8 @@ impl<T: Bytes> GenericPatriciaSet<T> {
 
     /// Makes a set of elements, inserted one after the other. The iterator must end.
     ///
-    /// Takes the time of an `insert` for each element.
+    /// Takes the time of an `insert` for each element, and while they come in order that of
+    /// `sorted_load`.
     ///
     /// # Errors
     ///
@@ -87,8 +89,16 @@ impl<T: Bytes> GenericPatriciaSet<T> {
         ensures err { OnErr result ((left : KeySet)
             × IsStoppedAt I.into_iter_gives I.IntoIter.next_gives Q.key elements map.empty left) }
     {
-        let mut set = GenericPatriciaSet::new(alloc);
-        set.extend(elements)?;
-        Ok(set)
+        let mut rest = elements.into_iter();
+        let mut filling: Filling<Q, ()> = Filling::new(alloc);
+        while let Some(element) = rest.next() {
+            match filling.put(element, ()) {
+                Ok(filled) => filling = filled,
+                Err(error) => return Err(error),
+            }
+        }
+        Ok(GenericPatriciaSet {
+            map: filling.into_map(),
+        })
     }
 }

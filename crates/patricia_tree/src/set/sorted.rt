@@ -12,9 +12,9 @@ impl<T: Bytes> GenericPatriciaSet<T> {
     /// Puts elements in order behind those of the set: each must come after those before it, and
     /// after those of the set. The iterator must end.
     ///
-    /// The look-up of each element goes on from the nodes that the one before it has passed. The
-    /// last element of the set is looked up once, as by `last`. Nodes are relocated at the end
-    /// alone, where the set has more than doubled, if memory is there for it.
+    /// The look-up of each element goes on at the last place that the one before it has passed,
+    /// too. The last element of the set is looked up once, as by `last`. Nodes are relocated at
+    /// the end alone, where the set has more than doubled, if memory is there for it.
     ///
     /// # Errors
     ///

@@ -239,8 +239,8 @@ impl<T: Bytes> GenericPatriciaSet<T> {
     /// Returns the set of the elements that are in this set, in the other one, or in both.
     ///
     /// Takes the time of a copy of the larger set, and a walk over the smaller one. The look-up of
-    /// each of its elements goes on from the nodes that the one before it has passed. Nodes are not
-    /// relocated.
+    /// each of its elements goes on at the last place that the one before it has passed, too. Nodes
+    /// are not relocated.
     ///
     /// # Errors
     ///
@@ -270,9 +270,9 @@ impl<T: Bytes> GenericPatriciaSet<T> {
     /// Returns the set of the elements that are in both sets.
     ///
     /// Takes a walk over the smaller set, with a look-up in the other one for each element. The
-    /// elements of the result are inserted in order, and each look-up there goes on from the nodes
-    /// that the one before it has passed. Nodes are relocated at the end alone, if memory is there
-    /// for it.
+    /// elements of the result are inserted in order, and each look-up there goes on at the last
+    /// place that the one before it has passed, too. Nodes are relocated at the end alone, if
+    /// memory is there for it.
     ///
     /// # Errors
     ///
@@ -303,9 +303,9 @@ impl<T: Bytes> GenericPatriciaSet<T> {
     /// Returns the set of the elements that are in this set and not in the other one.
     ///
     /// Where the other set has at most half as many elements, this takes the time of a copy of this
-    /// set, and of a `remove` for each element of the other one, whose look-up goes on from the
-    /// nodes that the element before has passed. Else it takes a walk over this set, with a look-up
-    /// in the other one for each element, and makes the result as `intersection` does.
+    /// set, and of a `remove` for each element of the other one, whose look-up goes on at the last
+    /// place that the one before it has passed, too. Else it takes a walk over this set, with a
+    /// look-up in the other one for each element, and makes the result as `intersection` does.
     ///
     /// # Errors
     ///
@@ -353,8 +353,8 @@ impl<T: Bytes> GenericPatriciaSet<T> {
     /// called at each element in order.
     ///
     /// The set is made anew: this takes a walk over it. The elements that are kept are inserted in
-    /// order, and each look-up there goes on from the nodes that the one before it has passed.
-    /// Nodes are relocated at the end alone, if memory is there for it.
+    /// order, and each look-up there goes on at the last place that the one before it has passed,
+    /// too. Nodes are relocated at the end alone, if memory is there for it.
     ///
     /// # Errors
     ///
