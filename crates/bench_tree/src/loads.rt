@@ -25,6 +25,20 @@ pub(super) fn time_load<R: AllocGlobal + Clock + Print, Q: BorrowedBytes>(
     report(sheet, "sorted_load", start, keys.len(), answer)
 }
 
+/// Makes a map of keys in their order.
+pub(super) fn time_made<R: AllocGlobal + Clock + Print, Q: BorrowedBytes>(
+    sheet: &Sheet<'_, R>,
+    keys: &[Q],
+) -> io::Result<()> {
+    let start = Instant::now(sheet.rt)?;
+    let pairs = keys.iter().map(|key| (*key, 1));
+    let map: GenericPatriciaMap<Q::Owned, u64> = GenericPatriciaMap::from_iter(
+        sheet.rt.alloc(),
+        pairs,
+    )?;
+    report(sheet, "from_iter", start, keys.len(), map.len() as u64)
+}
+
 // Makes the set of what two sets share.
 fn time_intersection<R: Clock + Print, T: Bytes>(
     sheet: &Sheet<'_, R>,

@@ -29,7 +29,7 @@ use churns::report_churn;
 use fills::report_fill;
 use keys::{Lists, few, read_lists, shuffle};
 use lines::{Sheet, line};
-use loads::{time_load, time_union};
+use loads::{time_load, time_made, time_union};
 use memory::{memory, memory_since};
 use patricia_tree::{BorrowedBytes, GenericPatriciaMap, PatriciaMap};
 use std::env;
@@ -79,7 +79,8 @@ fn put_in_order<R: AllocGlobal + Clock + Print, Q: BorrowedBytes>(
 ) -> io::Result<()> {
     let mut map = GenericPatriciaMap::new(sheet.rt.alloc());
     time_each(sheet, "insert_sorted", &mut map, Each::Put, keys)?;
-    time_load(sheet, keys)
+    time_load(sheet, keys)?;
+    time_made(sheet, keys)
 }
 
 fn report_memory<R: Print>(sheet: &Sheet<'_, R>, memory: (u64, u64)) -> io::Result<()> {
