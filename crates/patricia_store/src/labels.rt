@@ -54,12 +54,13 @@ fn read_number(bytes: &[u8], at: usize) -> usize
     requires { at + 6 ≤ length bytes.now }
     ensures { result ≡ number_at bytes.now at }
 {
-    bytes[at] as usize
-        + 256 * bytes[at + 1] as usize
-        + 65536 * bytes[at + 2] as usize
-        + 16777216 * bytes[at + 3] as usize
-        + 4294967296 * bytes[at + 4] as usize
-        + 1099511627776 * bytes[at + 5] as usize
+    let number = bytes[at] as u64
+        + 256 * bytes[at + 1] as u64
+        + 65536 * bytes[at + 2] as u64
+        + 16777216 * bytes[at + 3] as u64
+        + 4294967296 * bytes[at + 4] as u64
+        + 1099511627776 * bytes[at + 5] as u64;
+    number as usize
 }
 
 // The first byte and the length of a label.
@@ -135,8 +136,8 @@ fn push_number(bytes: &mut Vec<u8>, n: usize)
     bytes.push_reserved((n / 256 % 256) as u8);
     bytes.push_reserved((n / 65536 % 256) as u8);
     bytes.push_reserved((n / 16777216 % 256) as u8);
-    bytes.push_reserved((n / 4294967296 % 256) as u8);
-    bytes.push_reserved((n / 1099511627776) as u8);
+    bytes.push_reserved((n as u64 / 4294967296 % 256) as u8);
+    bytes.push_reserved((n as u64 / 1099511627776) as u8);
 }
 
 // Where this part of the bytes is. One of 255 bytes or more gets a note. Does not allocate.

@@ -4,8 +4,9 @@ ghost use Rattle.patricia_store.specs.Internal.Packing.{number, packed, most};
 
 use std::mem;
 
-/// The greatest number, and the most bytes that a store has.
-pub const MOST: usize = 281474976710655;
+/// The greatest number, and the most bytes that a store has. With a `usize` of 32 bits it is the
+/// greatest `usize`, which is no length either.
+pub const MOST: usize = 281474976710655u64 as usize;
 
 /// The most nodes that a store has. The number of the next one is less than `MOST`.
 pub const MOST_NODES: usize = MOST - 1;
@@ -31,7 +32,7 @@ impl Packed {
         Packed {
             low: (n % 65536) as u16,
             middle: (n / 65536 % 65536) as u16,
-            high: (n / 4294967296) as u16,
+            high: (n as u64 / 4294967296) as u16,
         }
     }
 
@@ -40,6 +41,7 @@ impl Packed {
         ensures value { result ≡ number self }
         ensures small { result < most + 1 }
     {
-        (self.low as u32 + 65536 * self.middle as u32) as usize + 4294967296 * self.high as usize
+        let lower = self.low as u32 + 65536 * self.middle as u32;
+        (lower as u64 + 4294967296 * self.high as u64) as usize
     }
 }
