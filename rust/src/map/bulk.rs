@@ -1,0 +1,212 @@
+//! Many entries put in by one call.
+
+use super::GenericPatriciaMap;
+use crate::errors::{AllocError, LoadError, NotInOrder, loaded, need};
+use crate::key::{BorrowedBytes, Bytes, Key};
+use crate::rt::alloc::Global;
+use crate::rt::vec::Vec as ProvedVec;
+use core::cell::Cell;
+use core::mem;
+use memory::vec::Vec;
+
+/// An entry of a list from which the value is taken while the key is lent.
+pub(crate) type Entry<Q, V> = (Q, Cell<Option<V>>);
+
+/// An entry whose value is there.
+pub(crate) fn entry<Q, V>((key, value): (Q, V)) -> Entry<Q, V> {
+    (key, Cell::new(Some(value)))
+}
+
+/// The bytes of an entry's key.
+fn bytes<'e, K: Bytes, Q, V>(entry: &'e Entry<Q, V>) -> &'e [u8]
+where
+    Q: AsRef<K::Borrowed>,
+    K::Borrowed: 'e,
+{
+    entry.0.as_ref().as_bytes()
+}
+
+/// The first eight bytes of a key as a number, which is in the order of keys.
+fn front(bytes: &[u8]) -> u64 {
+    let mut front = [0; 8];
+    let len = bytes.len().min(8);
+    front[..len].copy_from_slice(&bytes[..len]);
+    u64::from_be_bytes(front)
+}
+
+/// The places of entries in the order of their keys. Of entries with one key the last has a place.
+///
+/// Most comparisons are of the first bytes alone, which are beside the places.
+fn sorted_places<K: Bytes, Q, V>(
+    list: &[Entry<Q, V>],
+) -> Result<ProvedVec<(u64, usize)>, AllocError>
+where
+    Q: AsRef<K::Borrowed>,
+{
+    let key = |at: usize| bytes::<K, Q, V>(&list[at]);
+    let mut places = ProvedVec::with_capacity(Global, list.len())?;
+    for at in 0..list.len() {
+        places.push_reserved((front(key(at)), at));
+    }
+    places.sort_unstable_by(|&(x, i), &(y, j)| {
+        x.cmp(&y).then_with(|| key(i).cmp(key(j))).then(j.cmp(&i))
+    });
+    places
+        .0
+        .dedup_by(|&mut (x, i), &mut (y, j)| x == y && key(i) == key(j));
+    Ok(places)
+}
+
+/// Collects entries, or returns an error if memory runs out.
+fn try_collect<T>(entries: impl Iterator<Item = T>) -> Result<Vec<T>, AllocError> {
+    let mut list = ProvedVec::with_capacity(Global, entries.size_hint().0)?;
+    for entry in entries {
+        list.push(entry)?;
+    }
+    Ok(list.0)
+}
+
+impl<K: Bytes, V> GenericPatriciaMap<K, V> {
+    /// Puts entries in key order behind those of the map.
+    fn load<'e, Q, I>(&mut self, entries: I) -> Result<(), LoadError>
+    where
+        Q: 'e + AsRef<K::Borrowed>,
+        I: Iterator<Item = &'e Entry<Q, V>>,
+        V: 'e,
+        K::Borrowed: 'e,
+    {
+        self.map.sorted_load(entries.filter_map(|(key, value)| {
+            let key = Key::<K>::new(key.as_ref());
+            value.take().map(|value| (key, value))
+        }))
+    }
+
+    /// Makes a map of a list of entries in any order.
+    pub(crate) fn from_list<Q>(list: Vec<Entry<Q, V>>) -> Result<Self, LoadError>
+    where
+        Q: AsRef<K::Borrowed>,
+    {
+        let mut map = Self::new();
+        if list.is_sorted_by(|x, y| bytes::<K, Q, V>(x) < bytes::<K, Q, V>(y)) {
+            map.load(list.iter())?;
+        } else {
+            let places = sorted_places::<K, Q, V>(&list)?;
+            map.load(places.iter().map(|&(_, at)| &list[at]))?;
+        }
+        Ok(map)
+    }
+
+    /// Makes a map of entries in any order, or returns an error if memory runs out. Of entries with
+    /// one key the last counts.
+    pub fn try_from_iter<Q, I>(entries: I) -> Result<Self, AllocError>
+    where
+        Q: AsRef<K::Borrowed>,
+        I: IntoIterator<Item = (Q, V)>,
+    {
+        let list = try_collect(entries.into_iter().map(entry))?;
+        Self::from_list(list).map_err(|_| AllocError)
+    }
+
+    /// Inserts entries in turn. If memory runs out, those before the one for which it ran out are
+    /// in the map, and the iterator is dropped.
+    pub fn try_extend<Q, I>(&mut self, entries: I) -> Result<(), AllocError>
+    where
+        Q: AsRef<K::Borrowed>,
+        I: IntoIterator<Item = (Q, V)>,
+    {
+        let before = self.len();
+        for (key, value) in entries {
+            self.try_insert(key, value)?;
+        }
+        self.map.settle_since(before);
+        Ok(())
+    }
+
+    /// Makes a map of entries whose keys come in order, each after the one before it.
+    ///
+    /// ```
+    /// use patricia::{NotInOrder, StringPatriciaMap};
+    ///
+    /// let map = StringPatriciaMap::from_sorted_iter([("a", 1), ("b", 2)]);
+    /// assert_eq!(map.map(|map| map.len()), Ok(2));
+    /// let map = StringPatriciaMap::from_sorted_iter([("b", 1), ("a", 2)]);
+    /// assert_eq!(map.map(|map| map.len()), Err(NotInOrder));
+    /// ```
+    pub fn from_sorted_iter<Q, I>(entries: I) -> Result<Self, NotInOrder>
+    where
+        Q: AsRef<K::Borrowed>,
+        I: IntoIterator<Item = (Q, V)>,
+    {
+        loaded(Self::try_from_sorted_iter(entries))
+    }
+
+    /// Does as `from_sorted_iter`, and returns an error if memory runs out, too.
+    pub fn try_from_sorted_iter<Q, I>(entries: I) -> Result<Self, LoadError>
+    where
+        Q: AsRef<K::Borrowed>,
+        I: IntoIterator<Item = (Q, V)>,
+    {
+        let mut map = Self::new();
+        map.try_sorted_load(entries)?;
+        Ok(map)
+    }
+
+    /// Puts entries behind those of the map, each of which has to come after the one before it. At
+    /// the first that does not, those before it are in the map.
+    pub fn sorted_load<Q, I>(&mut self, entries: I) -> Result<(), NotInOrder>
+    where
+        Q: AsRef<K::Borrowed>,
+        I: IntoIterator<Item = (Q, V)>,
+    {
+        loaded(self.try_sorted_load(entries))
+    }
+
+    /// Does as `sorted_load`, and returns an error if memory runs out, too: then the entries before
+    /// the one for which it ran out are in the map, or none if the list of all keys has no room.
+    pub fn try_sorted_load<Q, I>(&mut self, entries: I) -> Result<(), LoadError>
+    where
+        Q: AsRef<K::Borrowed>,
+        I: IntoIterator<Item = (Q, V)>,
+    {
+        let list = try_collect(entries.into_iter().map(entry))?;
+        self.load(list.iter())
+    }
+
+    /// Moves all entries of another map here. If both have a key, the other's value stays. The other
+    /// map is left empty.
+    pub fn append(&mut self, other: &mut Self) {
+        need(self.try_append(other))
+    }
+
+    /// Does as `append`. If memory runs out, the entries before the one for which it ran out are
+    /// here, and those from it on are dropped.
+    pub fn try_append(&mut self, other: &mut Self) -> Result<(), AllocError> {
+        self.try_merge_with(mem::take(other), |old, new| *old = new)
+    }
+
+    /// Puts the entries of another map in. If both have a key, a closure is called at the value
+    /// here and the other one.
+    ///
+    /// ```
+    /// use patricia::StringPatriciaMap;
+    ///
+    /// let mut map = StringPatriciaMap::from_iter([("a", 1), ("b", 2)]);
+    /// map.merge_with(StringPatriciaMap::from_iter([("b", 3), ("c", 4)]), |old, new| *old += new);
+    /// assert_eq!(map.values().collect::<Vec<_>>(), [&1, &5, &4]);
+    /// ```
+    pub fn merge_with<F>(&mut self, other: Self, f: F)
+    where
+        F: FnMut(&mut V, V),
+    {
+        need(self.try_merge_with(other, f))
+    }
+
+    /// Does as `merge_with`. If memory runs out, the entries before the one for which it ran out are
+    /// here, and those from it on are dropped.
+    pub fn try_merge_with<F>(&mut self, other: Self, f: F) -> Result<(), AllocError>
+    where
+        F: FnMut(&mut V, V),
+    {
+        self.map.merge_with(other.map, f)
+    }
+}
