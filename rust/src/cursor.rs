@@ -14,8 +14,8 @@ use core::ops::Bound;
 
 debug_by_name!(Cursor<'a, K, V>, Range<'a, K, V>);
 
-/// A cursor over the entries of a map, or of a part of it, in key order. It lends each key and value
-/// in turn, and makes no key.
+/// A cursor over the entries of a map, or of a part of it, in key order. It lends each key and
+/// value in turn, and makes no key.
 ///
 /// A new cursor is before the first entry: `advance` moves it there.
 pub struct Cursor<'a, K, V: 'a> {
@@ -182,8 +182,8 @@ impl<'a, K: Bytes, V: 'a> Iterator for Range<'a, K, V> {
 
 impl<K: Bytes, V> FusedIterator for Range<'_, K, V> {}
 
-/// The entries whose keys are few edits from a key, in key order: a cursor, which lends them, and an
-/// iterator, which makes each key.
+/// The entries whose keys are few edits from a key, in key order: a cursor, which lends them, and
+/// an iterator, which makes each key.
 pub struct Within<'a, 'b, K: Bytes, V: 'a> {
     cursor: NearCursor<'a, Key<'b, K>, V>,
 }

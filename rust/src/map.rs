@@ -179,8 +179,8 @@ impl<K: Bytes, V> GenericPatriciaMap<K, V> {
         need(self.try_remove(key))
     }
 
-    /// Does as `remove`. If memory runs out for the label of two joined nodes, the map is unchanged.
-    /// It never does for a key that is not there, nor for the empty key.
+    /// Does as `remove`. If memory runs out for the label of two joined nodes, the map is
+    /// unchanged. It never does for a key that is not there, nor for the empty key.
     #[inline]
     pub fn try_remove<Q>(&mut self, key: Q) -> Result<Option<V>, AllocError>
     where
@@ -295,8 +295,8 @@ impl<K: Bytes, V> GenericPatriciaMap<K, V> {
         IterPrefixMut::new(&mut self.map, Key::<K>::new(prefix))
     }
 
-    /// Returns the entries of a range of keys, in key order. It is empty if the end comes before the
-    /// start.
+    /// Returns the entries of a range of keys, in key order. It is empty if the end comes before
+    /// the start.
     ///
     /// ```
     /// use patricia::StringPatriciaMap;
@@ -354,8 +354,9 @@ impl<K: Bytes, V> GenericPatriciaMap<K, V> {
 
     /// Returns the entries whose keys are at most `limit` edits from the key, in key order.
     ///
-    /// An edit inserts, deletes or replaces an item: a byte of a byte string, a character of a text.
-    /// Takes time in proportion to the items of the keys that it looks at, times those of the key.
+    /// An edit inserts, deletes or replaces an item: a byte of a byte string, a character of a
+    /// text. Takes time in proportion to the items of the keys that it looks at, times those of the
+    /// key.
     ///
     /// ```
     /// use patricia::StringPatriciaMap;

@@ -1,5 +1,5 @@
-//! Serde: a map is the pair of its tree bytes and its values in key order, as `patricia_tree` writes
-//! it, and a set that of its tree bytes and a unit for each element.
+//! Serde: a map is the pair of its tree bytes and its values in key order, as `patricia_tree`
+//! writes it, and a set that of its tree bytes and a unit for each element.
 
 use crate::key::Bytes;
 use crate::{GenericPatriciaMap, GenericPatriciaSet};

@@ -144,8 +144,8 @@ impl<T: Bytes> GenericPatriciaSet<T> {
         need(self.try_insert(value))
     }
 
-    /// Does as `insert`. If memory runs out, the set is unchanged. It never does for an element that
-    /// is there, nor for the empty key.
+    /// Does as `insert`. If memory runs out, the set is unchanged. It never does for an element
+    /// that is there, nor for the empty key.
     pub fn try_insert<U: AsRef<T::Borrowed>>(&mut self, value: U) -> Result<bool, AllocError> {
         self.set.insert(Key::<T>::new(value.as_ref()))
     }
@@ -155,7 +155,8 @@ impl<T: Bytes> GenericPatriciaSet<T> {
         need(self.try_remove(value))
     }
 
-    /// Does as `remove`. If memory runs out for the label of two joined nodes, the set is unchanged.
+    /// Does as `remove`. If memory runs out for the label of two joined nodes, the set is
+    /// unchanged.
     pub fn try_remove<U: AsRef<T::Borrowed>>(&mut self, value: U) -> Result<bool, AllocError> {
         self.set.remove(Key::<T>::new(value.as_ref()))
     }

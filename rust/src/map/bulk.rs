@@ -172,8 +172,8 @@ impl<K: Bytes, V> GenericPatriciaMap<K, V> {
         self.load(list.iter())
     }
 
-    /// Moves all entries of another map here. If both have a key, the other's value stays. The other
-    /// map is left empty.
+    /// Moves all entries of another map here. If both have a key, the other's value stays. The
+    /// other map is left empty.
     pub fn append(&mut self, other: &mut Self) {
         need(self.try_append(other))
     }
@@ -201,8 +201,8 @@ impl<K: Bytes, V> GenericPatriciaMap<K, V> {
         need(self.try_merge_with(other, f))
     }
 
-    /// Does as `merge_with`. If memory runs out, the entries before the one for which it ran out are
-    /// here, and those from it on are dropped.
+    /// Does as `merge_with`. If memory runs out, the entries before the one for which it ran out
+    /// are here, and those from it on are dropped.
     pub fn try_merge_with<F>(&mut self, other: Self, f: F) -> Result<(), AllocError>
     where
         F: FnMut(&mut V, V),

@@ -60,8 +60,8 @@ impl<K: Bytes, V> GenericPatriciaMap<K, V> {
             .map(unwrapped)
     }
 
-    /// Removes the first entry in key order, and returns it. To take all entries out, `into_iter` is
-    /// faster.
+    /// Removes the first entry in key order, and returns it. To take all entries out, `into_iter`
+    /// is faster.
     pub fn pop_first(&mut self) -> Option<(K, V)> {
         need(self.try_pop_first())
     }

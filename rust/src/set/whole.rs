@@ -82,8 +82,8 @@ impl<T: Bytes> GenericPatriciaSet<T> {
         self.set.pop_last().map(unwrapped)
     }
 
-    /// Keeps the elements for which a closure returns `true`, which it asks in order. If the closure
-    /// panics, the set is unchanged.
+    /// Keeps the elements for which a closure returns `true`, which it asks in order. If the
+    /// closure panics, the set is unchanged.
     pub fn retain<F>(&mut self, f: F)
     where
         F: FnMut(&T::Borrowed) -> bool,
