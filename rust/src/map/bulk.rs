@@ -6,8 +6,12 @@ use crate::key::{BorrowedBytes, Bytes, Key};
 use crate::rt::alloc::Global;
 use crate::rt::vec::Vec as ProvedVec;
 use core::cell::Cell;
+use core::hint::black_box;
 use core::mem;
 use memory::vec::Vec;
+
+/// How many entries ahead a key is read.
+const AHEAD: usize = 6;
 
 /// An entry of a list from which the value is taken while the key is lent.
 pub(crate) type Entry<Q, V> = (Q, Cell<Option<V>>);
@@ -26,34 +30,45 @@ where
     entry.0.as_ref().as_bytes()
 }
 
-/// The first eight bytes of a key as a number, which is in the order of keys.
-fn front(bytes: &[u8]) -> u64 {
-    let mut front = [0; 8];
-    let len = bytes.len().min(8);
-    front[..len].copy_from_slice(&bytes[..len]);
-    u64::from_be_bytes(front)
+/// The place of an entry in a list, and the first 16 bytes of its key as two numbers, which are in
+/// the order of keys.
+struct Place {
+    front: [u64; 2],
+    at: usize,
+}
+
+impl Place {
+    fn new(key: &[u8], at: usize) -> Self {
+        let number = |bytes: &[u8]| {
+            let mut number = [0; 8];
+            let len = bytes.len().min(8);
+            number[..len].copy_from_slice(&bytes[..len]);
+            u64::from_be_bytes(number)
+        };
+        Place {
+            front: [number(key), number(key.get(8..).unwrap_or(&[]))],
+            at,
+        }
+    }
 }
 
 /// The places of entries in the order of their keys. Of entries with one key the last has a place.
 ///
 /// Most comparisons are of the first bytes alone, which are beside the places.
-fn sorted_places<K: Bytes, Q, V>(
-    list: &[Entry<Q, V>],
-) -> Result<ProvedVec<(u64, usize)>, AllocError>
+fn sorted_places<K: Bytes, Q, V>(list: &[Entry<Q, V>]) -> Result<Vec<Place>, AllocError>
 where
     Q: AsRef<K::Borrowed>,
 {
     let key = |at: usize| bytes::<K, Q, V>(&list[at]);
-    let mut places = ProvedVec::with_capacity(Global, list.len())?;
-    for at in 0..list.len() {
-        places.push_reserved((front(key(at)), at));
-    }
-    places.sort_unstable_by(|&(x, i), &(y, j)| {
-        x.cmp(&y).then_with(|| key(i).cmp(key(j))).then(j.cmp(&i))
+    let mut places = try_collect((0..list.len()).map(|at| Place::new(key(at), at)))?;
+    places.sort_unstable_by(|x, y| {
+        let by_key = || key(x.at).cmp(key(y.at));
+        x.front
+            .cmp(&y.front)
+            .then_with(by_key)
+            .then(y.at.cmp(&x.at))
     });
-    places
-        .0
-        .dedup_by(|&mut (x, i), &mut (y, j)| x == y && key(i) == key(j));
+    places.dedup_by(|x, y| x.front == y.front && key(x.at) == key(y.at));
     Ok(places)
 }
 
@@ -91,7 +106,13 @@ impl<K: Bytes, V> GenericPatriciaMap<K, V> {
             map.load(list.iter())?;
         } else {
             let places = sorted_places::<K, Q, V>(&list)?;
-            map.load(places.iter().map(|&(_, at)| &list[at]))?;
+            map.load((0..places.len()).map(|i| {
+                // the wait for a later key overlaps with the load of this one
+                if let Some(later) = places.get(i + AHEAD) {
+                    black_box(bytes::<K, Q, V>(&list[later.at]).first());
+                }
+                &list[places[i].at]
+            }))?;
         }
         Ok(map)
     }
