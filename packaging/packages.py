@@ -12,6 +12,12 @@ from tests import crates as repository  # noqa: E402
 PYTHON = '/usr/bin/python3'
 PARTS = 'src', 'specs', 'proofs'
 FLAGS = '-ffile-prefix-map=%s=. -g0'
+# What PROVED of the crate says besides.
+ERASED = '''
+The crate has the proved sources without their contracts, in src/proved. The checksums of these sources, and of the
+program that erases the contracts (packaging/eraser of the repository):
+
+%s'''
 # In this order. The packages for Debian have the wheel inside.
 KINDS = 'source', 'rattle', 'rust', 'python', 'debian'
 
@@ -78,11 +84,17 @@ class Making:
         self.packed(top + '.tar.gz', top, [*files, *own, (os.path.join(self.room, 'crates.txt'), 'crates.txt')])
 
     def of_rust(self):
-        """The crate with the archive in its folder lib/, where its build script looks first."""
-        top, library = 'patricia-' + self.version, self.library()
-        parts = [(os.path.join('bindings/rust', name), name) for name in ('Cargo.toml', 'build.rs', 'src', 'tests')]
-        own = [(name, name) for name in ('LICENSE', 'PROVED')]
-        self.packed(top + '.crate', top, [*parts, *own, (library + '/libpatricia.a', 'lib/libpatricia.a')])
+        """The crate: the proved sources with contracts erased, and the calls over them."""
+        top, proved = 'patricia-' + self.version, 'rust/src/proved'
+        self.run(sys.executable, '-B', 'packaging/eraser/erase.py')
+        with open(os.path.join(self.source, 'PROVED'), encoding='utf-8') as file:
+            claimed = file.read()
+        with open(os.path.join(self.source, proved, 'DIGEST'), encoding='utf-8') as file:
+            claimed += ERASED % ''.join('    ' + line for line in file)
+        with open(os.path.join(self.source, 'rust', 'PROVED'), 'w', encoding='utf-8') as file:
+            file.write(claimed)
+        parts = [(os.path.join('rust', name), name) for name in ('Cargo.toml', 'README.md', 'PROVED', 'src', 'tests')]
+        self.packed(top + '.crate', top, [*parts, ('LICENSE', 'LICENSE')])
 
     def of_python(self):
         """The wheel, which has the library inside."""

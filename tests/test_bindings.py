@@ -1,11 +1,10 @@
-"""What C, C++, Python and Rust see of the library: it is installed into a folder, and programs are compiled against it
-and run.
+"""What C, C++ and Python see of the library: it is installed into a folder, and programs are compiled against it and
+run.
 
 The archive is the one that PATRICIA_ARCHIVE names, which the gate builds beside, or else the one that `rt lib` makes
 in crates/patricia_c. What is not installed here is skipped, but for cc, make and python3.
 """
 import os
-import re
 import shutil
 import subprocess
 import sys
@@ -176,10 +175,8 @@ class Documents(Installed):
     def test_examples_are_there(self):
         self.assertEqual(tuple(documented.examples()), documented.NAMES)
 
-    @each(*documented.NAMES)
+    @each('words.c', 'words.py')
     def example(self, name):
-        if name == 'main.rs':
-            self.wants('cargo')
         if name == 'words.py':
             python_package(self)
         code, wanted = documented.examples()[name]
@@ -258,30 +255,3 @@ class InPython(Installed):
                   'assert "packages" in here and p.PatriciaSet([b"a"]).first() == b"a"; '
                   'assert {"py.typed", "__init__.pyi"} <= set(os.listdir(here))')
         self.succeeds([python, '-B', '-c', script], env={**os.environ, 'PYTHONPATH': packages}, cwd=self.room)
-
-
-class InRust(Installed):
-    """The crate of bindings/rust."""
-
-    def cargo(self, *words):
-        """Runs cargo, in a copy, since it leaves files beside the crate."""
-        self.wants('cargo')
-        crate = self.path('rust')
-        if not os.path.exists(crate):
-            shutil.copytree(os.path.join(ROOT, 'bindings', 'rust'), crate)
-        env = {**os.environ, 'PATRICIA_LIB_DIR': self.path('installed', 'lib'), 'CARGO_TARGET_DIR': self.path('target')}
-        ran = subprocess.run(['cargo', 'test', '--offline', *words], cwd=crate, env=env, stdin=subprocess.DEVNULL,
-                             stdout=subprocess.PIPE, stderr=subprocess.STDOUT, encoding='utf-8', check=False)
-        self.assertEqual(ran.returncode, 0, ran.stdout[-4000:])
-        return ran.stdout
-
-    def test_its_tests(self):
-        self.cargo('--quiet')
-
-    def test_its_tests_under_valgrind(self):
-        self.wants('valgrind')
-        programs = re.findall(r'Executable tests.*\((.*)\)', self.cargo('--no-run', '--tests'))
-        self.assertTrue(programs)
-        for program in programs:
-            self.succeeds([*CHECKED[:3], '--errors-for-leak-kinds=definite', *CHECKED[3:], program, '--test-threads=1'],
-                          cwd=self.path('rust'))

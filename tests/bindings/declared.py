@@ -1,8 +1,7 @@
-"""Compares what patricia.h and library.rs of the Rust crate declare with what patricia_c exports.
+"""Compares what patricia.h declares with what patricia_c exports.
 
 Each parameter is brought to one form: a number by its width, a pointer by what it points to. The types of patricia_c
-are the measure: `Global` has no bytes, so C passes nothing for it, and a slice is a pointer and a length. The Rust
-crate may declare fewer functions.
+are the measure: `Global` has no bytes, so C passes nothing for it, and a slice is a pointer and a length.
 """
 import os
 import re
@@ -75,42 +74,19 @@ def in_c():
     return found
 
 
-def block_in_rust():
-    return re.search(r'^extern "C" \{\n(.*?)^\}', read('bindings', 'rust', 'src', 'library.rs'), re.M | re.S)[1]
-
-
-def const_in_rust():
-    """The functions of library.rs that take a `const` map or handle."""
-    return set(re.findall(r'fn (\w+)\([^)]*\*const (?:Map|Shared)Place', block_in_rust()))
-
-
-def in_rust():
-    block = block_in_rust()
-    found = {}
-    for name, words, result in re.findall(r'fn (\w+)\(([^)]*)\)(?:\s+-> (\w+))?;', block):
-        types = []
-        for part in split(words):
-            kind = part.split(': ')[1]
-            place = re.fullmatch(r'\*(?:mut|const) (Map|Shared|Cursor)Place', kind)
-            types.append('*' + place[1].lower() if place else kind.replace('*mut ', '*'))
-        found[name] = (tuple(types), result or None)
-    return found
-
-
 def texts_in_c():
-    """The texts of the faults of tree bytes in patricia.h, by their codes."""
+    """The texts of the faults of tree bytes in patricia.h, in the order of their codes."""
     text = read('bindings', 'c', 'patricia.h')
     codes = {name: int(code) for name, code in re.findall(r'^    (PATRICIA_\w+) = (\d+)', text, re.M)}
-    found = {codes[name]: said for name, said in re.findall(r'case (PATRICIA_\w+): return "([^"]+)";', text)}
-    return {code: said for code, said in found.items() if code >= codes['PATRICIA_TRUNCATED']}
+    said = {codes[name]: told for name, told in re.findall(r'case (PATRICIA_\w+): return "([^"]+)";', text)}
+    return [said[code] for code in sorted(said) if code >= codes['PATRICIA_TRUNCATED']]
 
 
-def texts_in_rust():
-    """Those of the Rust crate, whose last one is of all other codes."""
-    text = read('bindings', 'rust', 'src', 'tree.rs')
-    found = {int(code): said for code, said in re.findall(r'^ +(\d+) => "([^"]+)",', text, re.M)}
-    last = re.search(r'_ => return f\.write_str\("([^"]+)"\)', text)[1]
-    return {**found, max(found) + 1: last}
+def texts_of_errors():
+    """The texts of DecodeError in the order of its variants, without offsets and without that of `Memory`."""
+    text = read('crates', 'patricia_wire', 'src', 'error.rt')
+    body = re.search(r'pub enum DecodeError \{(.*?)^\}', text, re.M | re.S)[1]
+    return [told.replace(' at {0}', '') for told in re.findall(r'#\[error\("([^"]+)"\)\]', body)[1:]]
 
 
 def faults():
@@ -121,14 +97,9 @@ def faults():
               if result == 'bool' and 'ensures refused' in clauses]
     found += ['patricia.h: %s reads alone, and takes no const' % x for x in sorted(reads() - const_in_c())]
     found += ['patricia.h: %s takes a const, and may change it' % x for x in sorted(const_in_c() - reads())]
-    other = (reads() & set(in_rust())) ^ const_in_rust()
-    found += ['library.rs: %s has another const' % x for x in sorted(other)]
-    found += [] if texts_in_c() == texts_in_rust() else ['patricia.h and tree.rs have other texts of faults']
-    for where, declared in ('patricia.h', in_c()), ('library.rs', in_rust()):
-        for name in known if where == 'patricia.h' else declared:
-            if name not in declared or declared[name] != known.get(name):
-                found.append('%s: %s is declared as %s, and exported as %s'
-                             % (where, name, declared.get(name), known.get(name)))
-        if where == 'patricia.h':
-            found += ['%s: %s is not exported' % (where, x) for x in declared if x not in known]
+    found += [] if texts_in_c() == texts_of_errors() else ['patricia.h and DecodeError have other texts of faults']
+    declared = in_c()
+    found += ['patricia.h: %s is declared as %s, and exported as %s' % (name, declared.get(name), known[name])
+              for name in known if declared.get(name) != known[name]]
+    found += ['patricia.h: %s is not exported' % name for name in declared if name not in known]
     return found

@@ -1,4 +1,5 @@
-"""Runs the examples of docs/BINDINGS.md. Programs are made in a folder, with the flags of pkg-config."""
+"""Runs the examples of docs/BINDINGS.md. Programs are made in a folder, in C with the flags of pkg-config, in Rust over
+the package that is in its folder rust/."""
 import os
 import re
 import shutil
@@ -34,9 +35,8 @@ def printed(name, text, folder, flags):
     shutil.copy(path, os.path.join(crate, 'src'))
     with open(os.path.join(crate, 'Cargo.toml'), 'w', encoding='utf-8') as file:
         file.write('[package]\nname = "example"\nversion = "0.1.0"\nedition = "2021"\n\n[dependencies]\n'
-                   'patricia = { path = "%s" }\n' % os.path.join(ROOT, 'bindings', 'rust'))
-    place = dict(os.environ, PATRICIA_LIB_DIR=os.path.join(folder, 'installed', 'lib'),
-                 CARGO_TARGET_DIR=os.path.join(folder, 'target'))
+                   'patricia = { path = "../rust" }\n')
+    place = dict(os.environ, CARGO_TARGET_DIR=os.path.join(folder, 'target', 'example'))
     return run('cargo', 'run', '--offline', '--quiet', cwd=crate, env=place)
 
 

@@ -21,7 +21,8 @@ sys.dont_write_bytecode = True
 from tests.bindings import documented  # noqa: E402
 
 RELEASE = 'bookworm'
-INCLUDED = 'gcc,libc6-dev,pkg-config,python3,man-db,bash-completion,cargo'
+# its compiler of Rust is the oldest that the crate compiles with
+INCLUDED = 'gcc,libc6-dev,pkg-config,python3,man-db,bash-completion,cargo-web,rustc-web'
 # how this ends where no empty Debian can be made
 UNABLE = 3
 PURGED = 'libpatricia0 libpatricia-dev python3-patricia patricia-tools'

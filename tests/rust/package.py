@@ -40,11 +40,15 @@ def erase(package, *flags):
                    stdout=subprocess.DEVNULL)
 
 
-def cargo(package, words, room, workbench=False, input=None, env=None, **more):
-    """Runs cargo offline, with its files in a room; with the configuration of the workbench if asked."""
+def cargo(package, words, room, workbench=False, rustc='', rustdoc='', output=False, data=None, **env):
+    """Runs cargo offline, with its files in a room; with the configuration of the workbench, or with more flags of the
+    compilers, if asked. What it writes is returned if asked."""
     source = SOURCE if has_serde() else []
-    flags = '--cfg workbench' if workbench else ''
-    env = {**os.environ, 'CARGO_TARGET_DIR': os.path.join(room, 'target-workbench' if workbench else 'target'),
-           'RUSTFLAGS': flags, 'RUSTDOCFLAGS': flags, **(env or {}), **more}
-    return subprocess.run(['cargo', words[0], '--offline', *source, *words[1:]], cwd=package, env=env, input=input,
-                          stdin=None if input is not None else subprocess.DEVNULL, check=False)
+    flags = '--cfg workbench' if workbench else rustc
+    kind = 'workbench' if workbench else 'strict' if rustc else 'plain'
+    env = {**os.environ, 'CARGO_TARGET_DIR': os.path.join(room, 'target', kind), 'RUSTFLAGS': flags,
+           'RUSTDOCFLAGS': rustdoc or flags, **env}
+    pipes = {'stdout': subprocess.PIPE, 'stderr': subprocess.STDOUT, 'encoding': 'utf-8'} if output else {}
+    given = {'stdin': subprocess.DEVNULL} if data is None else {'input': data}
+    return subprocess.run(['cargo', words[0], '--offline', *source, *words[1:]], cwd=package, env=env, check=False,
+                          **pipes, **given)
