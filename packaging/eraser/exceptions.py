@@ -51,7 +51,7 @@ WHOLE = 'patricia_tree/map/whole.rt'
 LOADS = 'patricia_tree/map/sorted.rt'
 SET_LOADS = 'patricia_tree/set/sorted.rt'
 
-# A text as the rules leave it, which its file has once, and the text in its place.
+# A text as the rules leave it, which its file has once, as a text and as a list of tokens, and the text in its place.
 EXCEPTIONS = [
     # 1. The crate of JSON is left out.
     ('patricia_tree/wire.rt',
@@ -60,7 +60,10 @@ EXCEPTIONS = [
     # 2 to 4. The one `Drop` with a body takes its value apart, which Rust does not allow. The cursor is held so that it
     # can be taken out.
     (GUARD, '    pub(crate) at: C,\n', '    pub(crate) at: crate::rt::Held<C>,\n'),
-    (GUARD, '        CursorGuard { owner, at }\n',
+    (GUARD,
+     "    pub fn new(owner: &'a mut M, at: C) -> Self {\n"
+     '        CursorGuard { owner, at }\n',
+     "    pub fn new(owner: &'a mut M, at: C) -> Self {\n"
      '        CursorGuard {\n            owner,\n            at: crate::rt::Held::new(at),\n        }\n'),
     (GUARD,
      '    fn drop(self) {\n'
