@@ -72,9 +72,14 @@ def refusals(name, source, output):
 
 def said(name, one, other):
     """A difference, in words."""
-    due = '%s:%d: %s is due' % (name, one.line, one.text) if one else '%s: nothing more is due' % name
-    has = 'the output has %s at line %d' % (other.text, other.line) if other else 'the output ends'
+    due = '%s:%d: %s is due' % (name, one.line, shown(one)) if one else '%s: nothing more is due' % name
+    has = 'the output has %s at line %d' % (shown(other), other.line) if other else 'the output ends'
     return '%s, and %s' % (due, has)
+
+
+def shown(token):
+    """A token in a message. A sign that belongs to the one before it is shown so."""
+    return '..' + token.text if token.is_glued else token.text
 
 
 def listing(top, ending=''):

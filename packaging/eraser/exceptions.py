@@ -147,4 +147,37 @@ EXCEPTIONS = [
      '            }\n'
      '        }\n'
      '        drop(load);\n'),
+    # 15. The drop of a value of the caller may panic, which a proof rules out, too: a value that `retain` removes is
+    # dropped once it is no more counted.
+    ('patricia_core/tree/pruning.rt',
+     '    walk.remove::<K, V>(&mut tree.arena)?;\n'
+     '    tree.count -= 1;\n',
+     '    let _old = walk.remove::<K, V>(&mut tree.arena)?;\n'
+     '    tree.count -= 1;\n'),
+    # 16 to 18. The same where all values are dropped: last, so that no node is left in part.
+    ('patricia_core/tree.rt',
+     '        self.parts.value = None;\n'
+     '        self.parts.arena.clear();\n'
+     '        self.parts.count = 0;\n',
+     '        self.parts.count = 0;\n'
+     '        let _value = self.parts.value.take();\n'
+     '        self.parts.arena.clear();\n'),
+    ('patricia_nodes/arena.rt',
+     '        self.nodes.clear();\n'
+     '        self.root = Link::none();\n'
+     '        self.free = Link::none();\n'
+     '        self.edits = 0;\n',
+     '        self.root = Link::none();\n'
+     '        self.free = Link::none();\n'
+     '        self.edits = 0;\n'
+     '        self.nodes.clear();\n'),
+    ('patricia_store/store.rt',
+     '        self.heads.clear();\n'
+     '        self.bodies.clear();\n'
+     '        self.labels.clear();\n'
+     '        self.dead = 0;\n',
+     '        self.heads.clear();\n'
+     '        self.labels.clear();\n'
+     '        self.dead = 0;\n'
+     '        self.bodies.clear();\n'),
 ]

@@ -160,6 +160,9 @@ def attribute(walk):
         if names:
             walk.give('#[derive(%s)]' % ', '.join(names))
         walk.at = end
+    elif inner:
+        walk.given += walk.tokens[walk.at:end]
+        walk.at = end
     else:
         walk.take(end - walk.at)
     return True
@@ -231,7 +234,7 @@ def drop_bound(walk):
 
 def path(walk):
     """Gives the module that stands for a crate at the front of a path."""
-    if walk.texts(3)[1:] != [':', ':'] or walk.text() not in walk.roots:
+    if walk.texts(3)[1:] != [':', ':']:
         return False
     if walk.text(-1) == ':' and walk.tokens[walk.at - 1].is_glued:
         return False
@@ -270,26 +273,35 @@ def writer(walk):
 
 
 def shown(walk):
-    """Gives an item that a list names as visible in the package, and the fields of a struct that it names."""
+    """Gives an item or a field that a list names as visible in the package, and a struct that it names unbounded."""
     kind, name = walk.texts(2)
-    if walk.at in walk.shown or kind in ('fn', 'mod', 'struct') and '%s %s' % (kind, name) in walk.visible:
-        walk.visible.discard('%s %s' % (kind, name))
-        walk.shown.discard(walk.at)
+    if walk.at in walk.shown:
         walk.give(VISIBLE)
-    if kind != 'struct':
-        return False
-    opening = walk.find('{', walk.at) if '{' in walk.texts(60) else walk.at
-    for field in [entry for entry in walk.visible if entry.startswith(name + '.')]:
-        place = walk.find(field[len(name) + 1:], opening)
-        if place < walk.end(opening) and walk.tokens[place + 1].text == ':' and walk.tokens[place - 1].text != 'pub':
-            walk.shown.add(place)
-            walk.visible.discard(field)
-    if name not in walk.unbounded:
+        walk.take()
+        return True
+    item = '%s %s' % (kind, name)
+    if item in walk.visible:
+        walk.visible.discard(item)
+        walk.give(VISIBLE)
+    if kind == 'struct':
+        note_fields(walk, name)
+    if kind != 'struct' or name not in walk.unbounded:
         return False
     walk.unbounded.discard(name)
     walk.take(2)
     parameters(walk)
     return True
+
+
+def note_fields(walk, struct):
+    """Notes where the fields of a struct are that a list names, so that they are given as visible there."""
+    for field in [entry for entry in walk.visible if entry.startswith(struct + '.')]:
+        opening = walk.find('{', walk.at)
+        for place in range(opening, walk.end(opening)):
+            before, name, behind = [token.text for token in walk.tokens[place - 1:place + 2]]
+            if name == field[len(struct) + 1:] and before in ('{', ',') and behind == ':':
+                walk.shown.add(place)
+                walk.visible.discard(field)
 
 
 def parameters(walk):
@@ -311,20 +323,33 @@ def parameters(walk):
             return
 
 
-STEPS = [comments, ghost, clause, attribute, implementation, drop_bound, path, imported, writer, shown]
+# What is tried at a token, by its text.
+STEPS = {'ghost': [ghost], 'requires': [clause], 'ensures': [clause], '#': [attribute], 'impl': [implementation],
+         ':': [drop_bound], '+': [drop_bound], 'use': [imported], 'fn': [writer, shown], 'Formatter': [writer],
+         'mod': [shown], 'struct': [shown]}
+
+
+def steps(walk):
+    """The functions that are tried where the walk is. One that returns true has gone on."""
+    token = walk.tokens[walk.at]
+    if token.kind == 'doc':
+        return [comments]
+    if token.text in walk.roots:
+        return [path]
+    return STEPS.get(token.text, []) if walk.at not in walk.shown else [shown]
 
 
 def expected(text, crate, unbounded=(), visible=()):
     """The tokens that the output of a source has to have, but for its exceptions, and what is wrong with the lists."""
     walk = Walk(text, crate, unbounded, visible)
     while walk.at < len(walk.tokens):
-        if not any(step(walk) for step in STEPS):
+        if not any(step(walk) for step in steps(walk)):
             walk.take()
     return walk.given, sorted(walk.unbounded | walk.visible)
 
 
 def excepted(tokens, old, new):
-    """The tokens with a part of them replaced, or None where they have it not once."""
+    """The tokens with a part of them replaced, or None unless they have it once."""
     part = [token.content for token in scan(old)]
     places = [at for at in range(len(tokens) - len(part) + 1)
               if tokens[at].content == part[0] and [token.content for token in tokens[at:at + len(part)]] == part]

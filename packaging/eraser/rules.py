@@ -37,11 +37,13 @@ def ghosts(words, source):
 def attributes(words):
     """The places of the first word, the name and the last word of each attribute, and whether it is an inner one."""
     for at, word in enumerate(words):
+        if word.text != '#' or word.kind != 'mark':
+            continue
         bracket = after(words, at)
         is_inner = word_at(words, bracket) == '!'
         if is_inner:
             bracket = after(words, bracket)
-        if word.text == '#' and word.is_code and word_at(words, bracket) == '[':
+        if word_at(words, bracket) == '[':
             yield at, after(words, bracket), close(words, bracket), is_inner
 
 
@@ -170,9 +172,9 @@ def clones(words, source):
 
 def drop_bounds(words, source):
     """Rule 9: the bound `Drop`. A trait below it has a size."""
-    for at, word in enumerate(words):
-        lead, behind = before(words, at), after(words, at)
-        if word.text != 'Drop' or word.kind != 'name' or word_at(words, lead) not in (':', '+'):
+    for at in [at for at, word in enumerate(words) if word.text == 'Drop' and word.kind == 'name']:
+        word, lead, behind = words[at], before(words, at), after(words, at)
+        if word_at(words, lead) not in (':', '+'):
             continue
         if word_at(words, behind) == '+':
             words[behind].drop()
@@ -207,15 +209,16 @@ def imports(words, source):
         gone = [place for place in names if words[place].text in GONE]
         if words[names[0]].text == 'thiserror' or gone and word_at(words, end - 1) != '}':
             drop(words, at, end)
+            continue
         for place in gone:
             drop_from_list(words, place)
 
 
 def writers(words, source):
     """Rule 13: the writer of a formatter is no type parameter."""
-    for at, word in enumerate(words):
+    for at in [at for at, word in enumerate(words) if word.text == 'fn' and word.is_code]:
         opening = after(words, after(words, at))
-        if word.text != 'fn' or not word.is_code or word_at(words, opening) != '<':
+        if word_at(words, opening) != '<':
             continue
         inside = [place for place in range(opening, close(words, opening) + 1) if words[place].is_code]
         if [words[place].text for place in inside] == ['<', 'W', ':', 'Write', '>']:

@@ -106,16 +106,16 @@ def code_end(text, at):
         return quoted_end(text, at, '"')
     if text[at] == "'":
         return apostrophe_end(text, at)
+    if not text[at].isalnum() and text[at] != '_':
+        return at + 1
     if text.startswith(RAW, at) and raw_end(text, at):
         return raw_end(text, at)
     if text.startswith(('b"', 'c"', "b'"), at):
         return quoted_end(text, at + 1, text[at + 1])
-    if text[at].isalnum() or text[at] == '_':
-        end = word_end(text, at)
-        while text[end:end + 1] == "'" and not text[at].isdigit():
-            end += 1
-        return end
-    return at + 1
+    end = word_end(text, at)
+    while text[end:end + 1] == "'" and not text[at].isdigit():
+        end += 1
+    return end
 
 
 def scan(text):
