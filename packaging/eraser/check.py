@@ -48,8 +48,8 @@ def refusals(name, source, output):
     """What is wrong with the output of a source, which is named by its path below `crates` without `src`."""
     lists = [[item for file, item in listed if file == name] for listed in (UNBOUNDED, VISIBLE)]
     try:
-        tokens, unused = expected(source, name.partition('/')[0], *lists)
-        found = scan(output)
+        given, found = scan(source), scan(output)
+        tokens, unused = expected(given, name.partition('/')[0], *lists)
         for entry in unused:
             yield '%s: an entry of exceptions.py fits nothing: %s' % (name, entry)
         for number, (file, old, new) in enumerate(EXCEPTIONS, 1):
@@ -59,7 +59,7 @@ def refusals(name, source, output):
                     yield '%s: exception %d does not fit' % (name, number)
                 tokens = replaced or tokens
         difference = first_difference(tokens, [token for token in found if token.kind != 'note'])
-        note = stray_note(scan(source), found)
+        note = stray_note(given, found)
     except (Unreadable, ValueError) as fault:
         yield '%s: %s' % (name, fault)
         return

@@ -154,7 +154,7 @@ EXCEPTIONS = [
      '    tree.count -= 1;\n',
      '    let _old = walk.remove::<K, V>(&mut tree.arena)?;\n'
      '    tree.count -= 1;\n'),
-    # 16 to 18. The same where all values are dropped: last, so that no node is left in part.
+    # 16 to 19. The same where all values are dropped: last, so that no node is left in part.
     ('patricia_core/tree.rt',
      '        self.parts.value = None;\n'
      '        self.parts.arena.clear();\n'
@@ -180,4 +180,11 @@ EXCEPTIONS = [
      '        self.labels.clear();\n'
      '        self.dead = 0;\n'
      '        self.bodies.clear();\n'),
+    ('patricia_walks/into_walk.rt',
+     '        self.arena.clear();\n'
+     '        self.progress.finish();\n'
+     '        self.pending = None;\n',
+     '        self.progress.finish();\n'
+     '        let _pending = self.pending.take();\n'
+     '        self.arena.clear();\n'),
 ]

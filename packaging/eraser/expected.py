@@ -18,8 +18,8 @@ VISIBLE = 'pub(crate)'
 class Walk:
     """A walk over the tokens of a source: where it is, what it has given, and what is left to give at a later place."""
 
-    def __init__(self, text, crate, unbounded, visible):
-        self.tokens = [token for token in scan(text) if token.kind != 'note']
+    def __init__(self, tokens, crate, unbounded, visible):
+        self.tokens = [token for token in tokens if token.kind != 'note']
         self.roots = dict(ROOTS, crate='crate::proved::' + crate)
         self.unbounded, self.visible = set(unbounded), set(visible)
         self.at, self.given = 0, []
@@ -339,9 +339,10 @@ def steps(walk):
     return STEPS.get(token.text, []) if walk.at not in walk.shown else [shown]
 
 
-def expected(text, crate, unbounded=(), visible=()):
-    """The tokens that the output of a source has to have, but for its exceptions, and what is wrong with the lists."""
-    walk = Walk(text, crate, unbounded, visible)
+def expected(tokens, crate, unbounded=(), visible=()):
+    """The tokens that the output has to have of a source with these, but for its exceptions, and the entries of the
+    lists that fit nothing."""
+    walk = Walk(tokens, crate, unbounded, visible)
     while walk.at < len(walk.tokens):
         if not any(step(walk) for step in steps(walk)):
             walk.take()

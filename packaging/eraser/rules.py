@@ -9,7 +9,7 @@ from words import Mistake, Word, after, before, close, drop, drop_told, find, te
 
 ROOM = 'crate::proved::'
 SHIM = 'crate::rt'
-PRELUDE = 'use crate::rt::prelude::*;\n'
+PRELUDE = 'use crate::rt::prelude::*;'
 CHECKERS = {'tactic', 'cycle'}
 GONE = {'Model'}
 HIDDEN = ['# use patricia::workbench::*;', '# fn main() -> Result<(), Fail> {'], ['# Ok(())', '# }']
@@ -277,7 +277,7 @@ def prelude(words, source):
     inner = {first: last for first, _, last, is_inner in attributes(words) if is_inner}
     while at in inner or not words[at].is_code and not is_outer_comment(words[at]):
         at = inner.get(at, at) + 1
-    words[at].text = PRELUDE + ('' if words[at].text in ('use', 'pub') else '\n') + words[at].text
+    words[at:at] = [Word('name', PRELUDE), Word('space', '\n' if words[at].text in ('use', 'pub') else '\n\n')]
 
 
 def is_outer_comment(word):

@@ -122,11 +122,12 @@ def scan(text):
     """The tokens of a text."""
     tokens, at, line, operator = [], 0, 1, -1
     while at < len(text):
-        if text[at].isspace():
-            line += text[at] == '\n'
+        sign = text[at]
+        if sign.isspace():
+            line += sign == '\n'
             at += 1
             continue
-        kind, end = comment(text, at) or ('code', code_end(text, at))
+        kind, end = sign in '/-{' and comment(text, at) or ('code', code_end(text, at))
         piece = text[at:end]
         is_operator = kind == 'code' and piece in OPERATORS
         tokens.append(Token(piece.rstrip(), kind, is_operator and operator == at, line))
