@@ -11,12 +11,13 @@ CRATES = os.path.join(ROOT, 'crates')
 sys.path.insert(0, ERASER)
 import check, erase, exceptions, expected, faults, tokens, words  # noqa: E401, E402
 
-LISTED = [*exceptions.UNBOUNDED, *exceptions.VISIBLE, *[(entry[0], number) for number, entry
-                                                       in enumerate(exceptions.EXCEPTIONS, 1)]]
+LISTED = exceptions.UNBOUNDED + exceptions.VISIBLE + [
+    (entry[0], number) for number, entry in enumerate(exceptions.EXCEPTIONS, 1)]
 # What the eraser makes of a source, but for the prelude. Each is a source of patricia_core.
 ERASED = {
     'nested braces': (
-        'fn f(n: usize) -> usize\n    requires { λ p. record { a = { n }; } }\n    ensures few { {n} }\n{\n    n\n}\n',
+        'fn f(n: usize) -> usize\n    requires { λ p. record { a = { n }; } }\n    ensures few { {n} }\n{\n    n\n'
+        '}\n',
         'fn f(n: usize) -> usize {\n    n\n}\n'),
     'comments in antt': (
         'struct S {\n    a: u8,\n    ghost b: {\n      -- the one }\n      {- and {- another } -} -} List "}" },\n}\n',
@@ -33,19 +34,21 @@ ERASED = {
         '/// What it requires { is said.\n/* ensures { /* ghost */ */\nfn f() {}\n',
         '/// What it requires { is said.\n/* ensures { /* ghost */ */\nfn f() {}\n'),
     'a clause in an example': (
-        '/// ```\n/// fn g(n: usize)\n///     requires { n < 2 }\n/// {\n/// }\n/// assert!(rt; f(rt.alloc()));\n/// ```\nfn f() {}\n',
-        '/// ```\n/// # use patricia::workbench::*;\n/// # fn main() -> Result<(), Fail> {\n/// fn g(n: usize)\n/// {\n'
-        '/// }\n/// assert!(f(Global));\n/// # Ok(())\n/// # }\n/// ```\nfn f() {}\n'),
+        '/// ```\n/// fn g(n: usize)\n///     requires { n < 2 }\n/// {\n/// }\n/// assert!(rt; f(rt.alloc()));\n'
+        '/// ```\nfn f() {}\n',
+        '/// ```\n/// # use patricia::workbench::*;\n/// # fn main() -> Result<(), Fail> {\n/// fn g(n: usize)\n'
+        '/// {\n/// }\n/// assert!(f(Global));\n/// # Ok(())\n/// # }\n/// ```\nfn f() {}\n'),
     'a trait': (
-        'pub trait T: Drop {\n    // of a value\n    ghost a: { Self → ℕ };\n\n    /// How many.\n    fn n(&self) -> usize\n'
-        '        ensures { result ≡ a self };\n}\n',
+        'pub trait T: Drop {\n    // of a value\n    ghost a: { Self → ℕ };\n\n    /// How many.\n'
+        '    fn n(&self) -> usize\n        ensures { result ≡ a self };\n}\n',
         'pub trait T: Sized {\n    /// How many.\n    fn n(&self) -> usize;\n}\n'),
     'bounds': (
         'fn f<K: Drop, V: Drop + Copy, W: Copy + Drop>() {}\n', 'fn f<K, V: Copy, W: Copy>() {}\n'),
     'derives': ('#[derive(Drop)]\nstruct S;\n\n#[derive(Clone, Drop, Copy)]\nstruct T;\n',
                 'struct S;\n\n#[derive(Clone, Copy)]\nstruct T;\n'),
     'a model': (
-        'struct S;\n\nimpl<V> Model for S {\n    ghost use A.{◌∷◌};\n\n    ghost Value = { ℕ };\n}\n\nfn f() {}\n',
+        'struct S;\n\nimpl<V> Model for S {\n    ghost use A.{◌∷◌};\n\n    ghost Value = { ℕ };\n}\n\n'
+        'fn f() {}\n',
         'struct S;\n\nfn f() {}\n'),
     'imports': (
         'use patricia_keys::Bytes;\nuse std::marker::{Brand, Model, PhantomData};\nuse std::marker::Model;\n'
@@ -59,15 +62,15 @@ ERASED = {
         '#[derive(Debug, Error)]\nenum E {\n    #[error("a")]\n    A,\n    #[error("b {0}")]\n    B(u8),\n}\n',
         '#[derive(Debug)]\nenum E {\n    A,\n    B(u8),\n}\n\nimpl core::fmt::Display for E {\n'
         "    fn fmt(&self, f: &mut core::fmt::Formatter<'_>) -> core::fmt::Result {\n        match self {\n"
-        '            E::A => f.write_str("a"),\n            E::B(at) => write!(f, "b {0}", at),\n        }\n    }\n}\n\n'
-        'impl core::error::Error for E {}\n'),
+        '            E::A => f.write_str("a"),\n            E::B(at) => write!(f, "b {0}", at),\n        }\n    }\n'
+        '}\n\nimpl core::error::Error for E {}\n'),
 }
 REFUSED = {
     'a clause without an expression': 'fn f()\n    requires n;\n',
     'antt without an end': 'ghost use A.{B;\n',
     'a comment without an end': 'fn f() {} /* /* */\n',
     'a model with code': 'impl Model for S {\n    fn f() {}\n}\n',
-    'a clone that is no copy': 'impl Clone for S {\n    fn clone(&self) -> Result<Self, AllocError> { Err(AllocError) }\n}\n',
+    'a clone that is no copy': 'impl Clone for S {\n    fn clone(&self) -> Result<Self, A> {\n        f()\n    }\n}\n',
     'an example without an end': '/// ```\nfn f() {}\n',
 }
 
@@ -107,8 +110,8 @@ class Texts(Case):
             text = erase.read(CRATES, crate, 'src', path)
             self.assertEqual(''.join(word.text for word in words.split(text)), text)
 
-    @each(('a && b', 'a & &b'), ("'a'", "'a"), ('1.0', '1 .0'), ('a: :b', 'a::b'), ('"a b"', '"ab"'), ('/// a', '// a'),
-          ('r"a"', 'r#"a"#'), ('b"a"', '"a"'), ('x', "x'"))
+    @each(('a && b', 'a & &b'), ("'a'", "'a"), ('1.0', '1 .0'), ('a: :b', 'a::b'), ('"a b"', '"ab"'),
+          ('/// a', '// a'), ('r"a"', 'r#"a"#'), ('b"a"', '"a"'), ('x', "x'"))
     def tokens_differ(self, one, other):
         self.assertNotEqual(*[[token.content for token in tokens.scan(text)] for text in (one, other)])
 
@@ -211,8 +214,8 @@ class Whole(Case):
         ran = self.command('check.py', '--to', place)
         self.assertEqual((ran.returncode, ran.stdout), (1, b'other files than due: %s\n' % name.encode()))
 
-    @each(('mod.rs', 'pub mod patricia_model;\n', ''), ('DIGEST', 'sources ', 'sources 0'), ('DIGEST', 'eraser', 'erased'),
-          ('patricia_tree/map.rs', 'self.tree.len()', 'self.tree.slots()'))
+    @each(('mod.rs', 'pub mod patricia_model;\n', ''), ('DIGEST', 'sources ', 'sources 0'),
+          ('DIGEST', 'eraser', 'erased'), ('patricia_tree/map.rs', 'self.tree.len()', 'self.tree.slots()'))
     def refuses_a_change_of(self, name, old, new):
         place = self.copied()
         text = check.read(place, name).decode()

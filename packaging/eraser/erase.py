@@ -3,8 +3,8 @@
 
     packaging/eraser/erase.py [--crates FOLDER] [--to FOLDER] [--unchecked]
 
-The output is a module of Rust for each crate, and replaces the folder of the output as a whole, if the check of check.py
-agrees with it. README.md tells the rules and the exceptions.
+The output is a module of Rust for each crate, and replaces the folder of the output as a whole, if the check of
+check.py agrees with it. README.md tells the rules and the exceptions.
 """
 import argparse
 import hashlib

@@ -51,14 +51,15 @@ WHOLE = 'patricia_tree/map/whole.rt'
 LOADS = 'patricia_tree/map/sorted.rt'
 SET_LOADS = 'patricia_tree/set/sorted.rt'
 
-# A text as the rules leave it, which its file has once, as a text and as a list of tokens, and the text in its place.
+# A text as the rules leave it, which its file has once, as a text and as a list of tokens, and the text in its
+# place. It has no comments but documentation.
 EXCEPTIONS = [
     # 1. The crate of JSON is left out.
     ('patricia_tree/wire.rt',
      'pub use patricia_json::{JsonError, pair_from_json, pair_to_json};\n',
      ''),
-    # 2 to 4. The one `Drop` with a body takes its value apart, which Rust does not allow. The cursor is held so that it
-    # can be taken out.
+    # 2 to 4. The one `Drop` with a body takes its value apart, which Rust does not allow. The cursor is held so that
+    # it can be taken out.
     (GUARD, '    pub(crate) at: C,\n', '    pub(crate) at: crate::rt::Held<C>,\n'),
     (GUARD,
      "    pub fn new(owner: &'a mut M, at: C) -> Self {\n"
@@ -83,8 +84,8 @@ EXCEPTIONS = [
     ('patricia_keys/keys/text.rt',
      'let n = self.floor_char_boundary(shared_len(self.as_bytes(), bytes));\n',
      'let n = crate::rt::floor_char_boundary(self, shared_len(self.as_bytes(), bytes));\n'),
-    # 7 and 8. A closure of the caller may panic, which a proof rules out: what has the tree of a map gives it back when
-    # it is dropped.
+    # 7 and 8. A closure of the caller may panic, which a proof rules out: what has the tree of a map gives it back
+    # when it is dropped.
     (RETAIN,
      '            Ok(pruner) => pruner,\n',
      '            Ok(pruner) => crate::rt::Returned::new(&mut self.tree, pruner, Pruner::into_tree),\n'),

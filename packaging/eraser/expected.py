@@ -1,7 +1,7 @@
 """What the tokens of the output have to be, by one walk over the tokens of a source.
 
-At what the rules drop the walk skips the whole of it, at what they rename it gives what stands there, and it gives every
-other token as it is. It shares no code with the rules of the eraser.
+At what the rules drop the walk skips the whole of it, at what they rename it gives what is to stand there, and every
+other token it gives as it is. It shares no code with the rules of the eraser.
 """
 from exceptions import CRATES
 from tokens import Token, Unreadable, scan
@@ -16,7 +16,7 @@ VISIBLE = 'pub(crate)'
 
 
 class Walk:
-    """A walk over the tokens of a source: where it is, what it has given, and what is left to give at a later place."""
+    """A walk over the tokens of a source: where it is, what it has given, and what it has to give at a later place."""
 
     def __init__(self, tokens, crate, unbounded, visible):
         self.tokens = [token for token in tokens if token.kind != 'note']
@@ -190,8 +190,9 @@ def error(walk, place):
     if walk.tokens[item].text == 'enum':
         said = 'match self { %s }' % said
     walk.later[last] = (
-        "impl%s core::fmt::Display for %s { fn fmt(&self, f: &mut core::fmt::Formatter<'_>) -> core::fmt::Result { %s } }"
-        ' impl%s core::error::Error for %s {}' % (of, whole, said, debug, whole))
+        'impl%s core::fmt::Display for %s {'
+        " fn fmt(&self, f: &mut core::fmt::Formatter<'_>) -> core::fmt::Result { %s }"
+        ' } impl%s core::error::Error for %s {}' % (of, whole, said, debug, whole))
 
 
 def implementation(walk):

@@ -189,7 +189,9 @@ def drop_bounds(words, source):
 def paths(words, source):
     """Rules 10 and 11: a crate is a module, and the kit's `std` is the shim."""
     for at, word in enumerate(words):
-        if word.kind != 'name' or word_at(words, after(words, at)) != '::' or word_at(words, before(words, at)) == '::':
+        if word.kind != 'name' or word_at(words, after(words, at)) != '::':
+            continue
+        if word_at(words, before(words, at)) == '::':
             continue
         if word.text == 'crate':
             word.text = ROOM + source.crate
@@ -292,7 +294,7 @@ def examples(words, source):
         if not told:
             continue
         indentation = words[at - 1].text.rpartition('\n')[2] if at else ''
-        opening, closing = ['\n'.join(['%s%s %s' % (indentation, told[1], line) for line in lines]) for lines in HIDDEN]
+        opening, closing = ['\n'.join('%s%s %s' % (indentation, told[1], line) for line in lines) for lines in HIDDEN]
         if told[2].startswith('```'):
             word.text = closing[len(indentation):] + '\n' + indentation + word.text if is_inside else (
                 word.text + '\n' + opening)
