@@ -59,7 +59,8 @@ ERASED = {
         'fn f(x: std::mem::A) {\n    x.std();\n    let std = crate::a::std::B;\n}\n',
         'fn f(x: crate::rt::mem::A) {\n    x.std();\n    let std = crate::proved::patricia_core::a::std::B;\n}\n'),
     'an error': (
-        '#[derive(Debug, Error)]\nenum E {\n    #[error("a")]\n    A,\n    #[error("b {0}")]\n    B(u8),\n}\n',
+        '#[derive(Debug, Error)]\nenum E {\n    #[error("a")]\n    A,\n    #[error("b {0}")]\n    B(u8),\n}\n\n'
+        'impl Model for E {\n    ghost Value = { ℕ };\n}\n',
         '#[derive(Debug)]\nenum E {\n    A,\n    B(u8),\n}\n\nimpl core::fmt::Display for E {\n'
         "    fn fmt(&self, f: &mut core::fmt::Formatter<'_>) -> core::fmt::Result {\n        match self {\n"
         '            E::A => f.write_str("a"),\n            E::B(at) => write!(f, "b {0}", at),\n        }\n    }\n'
@@ -212,18 +213,27 @@ class Whole(Case):
         place = self.copied()
         os.remove(os.path.join(place, name))
         ran = self.command('check.py', '--to', place)
-        self.assertEqual((ran.returncode, ran.stdout), (1, b'other files than due: %s\n' % name.encode()))
+        self.assert_ends(ran, b'other files than due: %s\n' % name.encode(), status=1)
 
-    @each(('mod.rs', 'pub mod patricia_model;\n', ''), ('DIGEST', 'sources ', 'sources 0'),
-          ('DIGEST', 'eraser', 'erased'), ('patricia_tree/map.rs', 'self.tree.len()', 'self.tree.slots()'))
-    def refuses_a_change_of(self, name, old, new):
+    def changed(self, name, old, new):
+        """The output with a change of a file."""
         place = self.copied()
         text = check.read(place, name).decode()
         self.assertIn(old, text)
         with open(os.path.join(place, name), 'w', encoding='utf-8') as file:
             file.write(text.replace(old, new, 1))
-        ran = self.command('check.py', '--to', place)
-        self.assertEqual((ran.returncode, ran.stdout.count(b'\n')), (1, 1), ran.stdout)
+        return place
+
+    @each(('mod.rs', 'pub mod patricia_model;\n', ''), ('DIGEST', 'sources ', 'sources 0'),
+          ('DIGEST', 'eraser', 'erased'), ('patricia_keys/keys.rs', '//! Key kinds', '//! Kinds'))
+    def refuses_a_change_of(self, name, old, new):
+        said = next(check.refusals_of_all(CRATES, self.changed(name, old, new)))
+        self.assertIn(name.rpartition('.')[0] or name, said)
+
+    def test_both_lines_of_a_difference_are_told(self):
+        ran = self.command('check.py', '--to', self.changed('patricia_tree/set.rs', 'self.map.len()', 'self.map.n()'))
+        self.assertEqual(ran.returncode, 1)
+        self.assertRegex(ran.stdout, rb'\Apatricia_tree/set.rt:\d+: len is due, and the output has n at line \d+\n\Z')
 
     def test_an_output_that_is_refused_replaces_nothing(self):
         place = self.copied()

@@ -118,8 +118,6 @@ def refusals_of_all(crates, to):
     if there != due:
         yield 'other files than due: %s' % ', '.join(sorted(set(due) ^ set(there)))
         return
-    for source, name, output in files:
-        yield from refusals(name, read(crates, source).decode(), read(to, output).decode())
     modules = scan(ALLOWED + ' '.join('pub mod %s;' % crate for crate in CRATES))
     if first_difference(modules, [token for token in scan(read(to, 'mod.rs').decode()) if token.kind == 'code']):
         yield 'mod.rs has not a line for each crate'
@@ -127,6 +125,8 @@ def refusals_of_all(crates, to):
                                           sum_of(HERE, listing(HERE, '.py')))
     if read(to, 'DIGEST').decode() != digest:
         yield 'DIGEST is not that of these sources and this eraser'
+    for source, name, output in files:
+        yield from refusals(name, read(crates, source).decode(), read(to, output).decode())
 
 
 def agrees(crates, to):

@@ -66,21 +66,24 @@ def drop_from_list(words, at):
 
 def derives(words, source):
     """Rules 5 and 6: `Drop` is derived without a word, and what thiserror derives is written out."""
+    errors = []
     for first, name, last, _ in list(attributes(words)):
         if words[name].text != 'derive':
             continue
         names = [at for at in range(name + 1, last) if words[at].kind == 'name']
         gone = [at for at in names if words[at].text in ('Drop', 'Error')]
         if any(words[at].text == 'Error' for at in gone):
-            write_error(words, last + 1)
+            errors.append(error_at(words, last + 1))
         if len(gone) == len(names):
             drop(words, first, last)
         for at in gone:
             drop_from_list(words, at)
+    for at, impls_of_it in reversed(errors):
+        words.insert(at, Word('written', impls_of_it))
 
 
-def write_error(words, at):
-    """Writes behind a type what thiserror derives for it, and makes its attributes gone."""
+def error_at(words, at):
+    """The place behind a type, and what thiserror derives for it. Makes its attributes gone."""
     kind = next(place for place in range(at, len(words)) if words[place].text in ('struct', 'enum'))
     name = words[after(words, kind)].text
     opening = after(words, after(words, kind))
@@ -96,7 +99,7 @@ def write_error(words, at):
         '        match self {\n%s\n        }' % arms)
     for first, last in [(first, last) for first, _, last in error_places(words, at, end)]:
         drop(words, first, last)
-    words[end].text += written(name, generics, body)
+    return end + 1, written(name, generics, body)
 
 
 def error_places(words, at, end):

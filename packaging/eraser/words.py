@@ -43,7 +43,7 @@ class Word:
 
     @property
     def is_code(self):
-        return self.kind not in ('space', 'comment', 'gone')
+        return self.kind not in ('space', 'comment', 'gone', 'written')
 
 
 def comment_end(text, at):
