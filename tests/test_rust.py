@@ -52,7 +52,8 @@ class Tests(Built):
         """Each request for memory is refused in turn, and the examples of the proved sources run."""
         made = os.path.join(self.room, 'workbench')
         package.copy(made)
-        package.erase(made, '--examples')
+        package.erase(made)
+        package.show_examples(made)
         said = self.cargo('test', '--test', 'refused', where=made, workbench=True)
         self.assertRegex(said, r'test result: ok\. [1-9]\d* passed')
         said = self.cargo('test', '--doc', where=made, workbench=True)

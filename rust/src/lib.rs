@@ -77,7 +77,6 @@ mod iter_mut;
 mod key;
 pub mod map;
 mod parts;
-#[allow(dead_code, unused_imports, unused_variables, clippy::all)]
 #[rustfmt::skip]
 mod proved;
 #[allow(dead_code, unused_imports)]

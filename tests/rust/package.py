@@ -1,5 +1,6 @@
 """The package of rust/ in a copy, since cargo and the eraser leave files beside it."""
 import os
+import re
 import shutil
 import subprocess
 import sys
@@ -33,11 +34,25 @@ def copy(to):
             file.write(manifest)
 
 
-def erase(package, *flags):
+def erase(package):
     """Erases the sources of this checkout into a package."""
     script = os.path.join(ROOT, 'packaging', 'eraser', 'erase.py')
-    subprocess.run([sys.executable, '-B', script, '--to', os.path.join(package, 'src', 'proved'), *flags], check=True,
-                   stdout=subprocess.DEVNULL)
+    subprocess.run([sys.executable, '-B', script, '--to', proved(package)], check=True, stdout=subprocess.DEVNULL)
+
+
+def proved(package):
+    """The folder of the erased sources in a package."""
+    return os.path.join(package, 'src', 'proved')
+
+
+def show_examples(package):
+    """Makes tests of the examples in the comments of the erased sources, which need the workbench."""
+    for folder, _, names in os.walk(proved(package)):
+        for path in [os.path.join(folder, name) for name in names if name.endswith('.rs')]:
+            with open(path, encoding='utf-8') as file:
+                text = file.read()
+            with open(path, 'w', encoding='utf-8') as file:
+                file.write(re.sub(r'(//[/!] )```ignore$', r'\1```', text, flags=re.M))
 
 
 def cargo(package, words, room, workbench=False, rustc='', rustdoc='', output=False, data=None, **env):
