@@ -10,7 +10,7 @@ from tests.support import ROOT, Case, run
 
 MOST_COLUMNS = 100
 # Of README and docs together, and of a paragraph, an item of a list or a row of a table. A word has no space in it.
-MOST_WORDS = 22000
+MOST_WORDS = 25000
 MOST_WORDS_OF_A_PARAGRAPH = 120
 LINK = re.compile(r'\[[^]]*\]\(([^)#:]+)(?:#[^)]*)?\)')
 

@@ -92,7 +92,8 @@ class Product(Built):
         for name in 'LICENSE', 'PROVED':
             with open(os.path.join(self.package, name), 'w', encoding='utf-8') as file:
                 file.write('')
-        listed = set(self.cargo('package', '--list', '--allow-dirty').split())
+        said = self.cargo('package', '--list', '--allow-dirty')
+        listed = {line for line in said.splitlines() if ' ' not in line and line}
         files = {os.path.relpath(os.path.join(at, name), self.package)
                  for part in ('src', 'tests') for at, _, names in os.walk(os.path.join(self.package, part))
                  for name in names if name.endswith('.rs')}
