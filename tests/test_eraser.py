@@ -36,7 +36,7 @@ ERASED = {
     'a clause in an example': (
         '/// ```\n/// fn g(n: usize)\n///     requires { n < 2 }\n/// {\n/// }\n/// assert!(rt; f(rt.alloc()));\n'
         '/// ```\nfn f() {}\n',
-        '/// ```ignore\n/// # use patricia::workbench::*;\n/// # fn main() -> Result<(), Fail> {\n/// fn g(n: usize)\n'
+        '/// ```text\n/// # use patricia::workbench::*;\n/// # fn main() -> Result<(), Fail> {\n/// fn g(n: usize)\n'
         '/// {\n/// }\n/// assert!(f(Global));\n/// # Ok(())\n/// # }\n/// ```\nfn f() {}\n'),
     'a trait': (
         'pub trait T: Drop {\n    // of a value\n    ghost a: { Self → ℕ };\n\n    /// How many.\n'

@@ -78,8 +78,8 @@ EXCEPTIONS = [
      '    }\n'),
     # 5. An example that continues in another one is no test in the workbench either.
     ('patricia_nodes/steps.rt',
-     '/// ```ignore\n/// # use patricia::workbench::*;\n',
-     '/// ```text\n/// # use patricia::workbench::*;\n'),
+     '/// ```text\n/// # use patricia::workbench::*;\n',
+     '/// ```ignore\n/// # use patricia::workbench::*;\n'),
     # 6. A call that the oldest compiler does not have.
     ('patricia_keys/keys/text.rt',
      'let n = self.floor_char_boundary(shared_len(self.as_bytes(), bytes));\n',

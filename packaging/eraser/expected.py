@@ -111,7 +111,7 @@ def documentation(told):
         mark, said = token.text[:3], token.text[3:].strip()
         if said.startswith('```'):
             around = [token._replace(text='%s %s' % (mark, line)) for line in (BACK if is_test else FRONT)]
-            opened = token._replace(text=token.text + 'ignore')
+            opened = token._replace(text=token.text + 'text')
             yield from around + [token] if is_test else [opened] + around
             is_test = not is_test
         elif not is_test:

@@ -291,7 +291,7 @@ def is_outer_comment(word):
 
 def examples(words, source):
     """Rule 15: an example in a comment has a `main` that may fail around it, and `rt` is no handle there. It is marked
-    `ignore`: only the workbench, in which the proved code is public, runs it as a test."""
+    `text`: only the workbench, in which the proved code is public, runs it as a test."""
     is_inside = False
     for at, word in enumerate(words):
         told = re.match(r'(//[/!])(?!/) ?(.*)', word.text) if word.kind == 'comment' else None
@@ -301,7 +301,7 @@ def examples(words, source):
         opening, closing = ['\n'.join('%s%s %s' % (indentation, told[1], line) for line in lines) for lines in HIDDEN]
         if told[2].startswith('```'):
             word.text = closing[len(indentation):] + '\n' + indentation + word.text if is_inside else (
-                word.text + 'ignore\n' + opening)
+                word.text + 'text\n' + opening)
             is_inside = not is_inside
         elif is_inside and re.match(r'\s*(requires|ensures)\b', told[2]):
             word.drop()

@@ -52,7 +52,7 @@ def show_examples(package):
             with open(path, encoding='utf-8') as file:
                 text = file.read()
             with open(path, 'w', encoding='utf-8') as file:
-                file.write(re.sub(r'(//[/!] )```ignore$', r'\1```', text, flags=re.M))
+                file.write(re.sub(r'(//[/!] )```text$', r'\1```', text, flags=re.M))
 
 
 def cargo(package, words, room, workbench=False, rustc='', rustdoc='', output=False, data=None, **env):
