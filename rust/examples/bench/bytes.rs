@@ -127,8 +127,8 @@ fn std_walked(sheet: &mut Sheet, lists: &Lists, map: &mut BTreeMap<Vec<u8>, u64>
     let n = map.len();
     sheet.time(Map::Std, "iter", n, || {
         black_box(
-            map.iter()
-                .map(|(key, _)| black_box(key.clone()).len())
+            map.keys()
+                .map(|key| black_box(key.clone()).len())
                 .sum::<usize>(),
         )
     });
@@ -152,8 +152,8 @@ fn std_walked(sheet: &mut Sheet, lists: &Lists, map: &mut BTreeMap<Vec<u8>, u64>
         let entries = |key: &[u8]| {
             map.range(key.to_vec()..)
                 .take(10)
-                .map(|e| e.0.clone())
-                .count()
+                .map(|entry| black_box(entry.0.clone()).len())
+                .sum::<usize>()
         };
         starts.iter().map(|key| entries(key)).sum::<usize>()
     });
@@ -193,12 +193,10 @@ fn std_whole(sheet: &mut Sheet, lists: &Lists, map: &BTreeMap<Vec<u8>, u64>) {
     sheet.time(Map::Std, "tree_bytes", n, || {
         black_box(map.keys().flatten().copied().collect::<Vec<u8>>())
     });
-    let pairs: Vec<_> = map
-        .iter()
-        .map(|(key, value)| (key.clone(), *value))
-        .collect();
     let read: BTreeMap<_, _> = sheet.time(Map::Std, "from_tree_bytes", n, || {
-        pairs.into_iter().collect()
+        map.iter()
+            .map(|(key, value)| (key.clone(), *value))
+            .collect()
     });
     let mut copy = sheet.time(Map::Std, "clone", n, || map.clone());
     assert!(sheet.time(Map::Std, "equals", n, || copy == read));
