@@ -21,22 +21,41 @@ fn prefixes(keys: &[String]) -> impl Iterator<Item = &str> {
     keys.iter().step_by(1000).filter_map(|key| key.get(..8))
 }
 
+/// A map of the entries that a map's type collects.
+fn collected<M: FromIterator<(String, usize)>>(keys: &[String]) -> M {
+    entries(keys).collect()
+}
+
+/// A map into which the entries are inserted.
+fn inserted<M: Default + Extend<(String, usize)>>(keys: &[String]) -> M {
+    let mut map = M::default();
+    map.extend(entries(keys));
+    map
+}
+
+/// Both maps are made, and dropped; the lines that read are of maps that were not dropped.
 pub fn ours(sheet: &mut Sheet, keys: &[String]) {
-    let n = keys.len();
-    let collected = sheet.time(Map::Ours, "collect", n, || entries(keys).collect());
-    ours_read(sheet, keys, "collected", collected);
-    let mut inserted = StringPatriciaMap::new();
-    sheet.time(Map::Ours, "insert", n, || inserted.extend(entries(keys)));
-    ours_read(sheet, keys, "inserted", inserted);
+    type Texts = StringPatriciaMap<usize>;
+    sheet.time(Map::Ours, "collect", keys.len(), || {
+        drop(collected::<Texts>(keys))
+    });
+    ours_read(sheet, keys, "collected", collected(keys));
+    sheet.time(Map::Ours, "insert", keys.len(), || {
+        drop(inserted::<Texts>(keys))
+    });
+    ours_read(sheet, keys, "inserted", inserted(keys));
 }
 
 pub fn std(sheet: &mut Sheet, keys: &[String]) {
-    let n = keys.len();
-    let collected = sheet.time(Map::Std, "collect", n, || entries(keys).collect());
-    std_read(sheet, keys, "collected", collected);
-    let mut inserted = BTreeMap::new();
-    sheet.time(Map::Std, "insert", n, || inserted.extend(entries(keys)));
-    std_read(sheet, keys, "inserted", inserted);
+    type Texts = BTreeMap<String, usize>;
+    sheet.time(Map::Std, "collect", keys.len(), || {
+        drop(collected::<Texts>(keys))
+    });
+    std_read(sheet, keys, "collected", collected(keys));
+    sheet.time(Map::Std, "insert", keys.len(), || {
+        drop(inserted::<Texts>(keys))
+    });
+    std_read(sheet, keys, "inserted", inserted(keys));
 }
 
 fn ours_read(sheet: &mut Sheet, keys: &[String], how: &str, mut map: StringPatriciaMap<usize>) {
