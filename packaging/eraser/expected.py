@@ -1,7 +1,7 @@
 """What the tokens of the output have to be, by one walk over the tokens of a source.
 
-At what the rules drop the walk skips the whole of it, at what they rename it gives what is to stand there, and every
-other token it gives as it is. It shares no code with the rules of the eraser.
+The walk skips each construct that the rules drop, gives the new tokens for each that they rename, and gives every other
+token as it is. It shares no code with the rules of the eraser.
 """
 from exceptions import CRATES
 from tokens import Token, Unreadable, scan
@@ -10,7 +10,7 @@ BRACES = {'(': ')', '[': ']', '{': '}'}
 PRELUDE = 'use crate::rt::prelude::*;'
 FRONT = '# use patricia::workbench::*;', '# fn main() -> Result<(), Fail> {'
 BACK = '# Ok(())', '# }'
-# What stands in place of the first name of a path. A crate of ours stands for itself, in the module of all.
+# What replaces the first name of a path. A crate is replaced by its module.
 ROOTS = dict({name: 'crate::proved::' + name for name in CRATES}, std='crate::rt')
 VISIBLE = 'pub(crate)'
 
@@ -235,7 +235,7 @@ def drop_bound(walk):
 
 
 def path(walk):
-    """Gives the module that stands for a crate at the front of a path."""
+    """Gives the module of a crate in place of the crate's name at the front of a path."""
     if walk.texts(3)[1:] != [':', ':']:
         return False
     if walk.text(-1) == ':' and walk.tokens[walk.at - 1].is_glued:

@@ -27,7 +27,7 @@ class Unreadable(Exception):
 
 
 def nested_end(text, at, opening, closing):
-    """The end of a comment with two marks, in which others may stand."""
+    """The end of a comment with two marks, which may have others inside."""
     depth, place = 0, at
     while place < len(text):
         if text.startswith(opening, place):

@@ -19,7 +19,7 @@ WORD = re.compile(r"""
   | (?P<mark>::|->|=>|\.\.=|\.\.|.)
 """, re.X | re.S)
 CLAUSE = re.compile(r'(?:requires|ensures\*?)(?:\s+\w+)?\s*(?=\{)')
-# What may stand in antt and have brackets in it that count for nothing.
+# Parts of a contract whose brackets do not count.
 QUIET = re.compile(r'"(?:\\.|[^"\\])*"|(?<![^\s(){};])--(?=[\s-]).*')
 
 
@@ -47,7 +47,7 @@ class Word:
 
 
 def comment_end(text, at):
-    """The end of a block comment, in which others may stand."""
+    """The end of a block comment, which may have others inside."""
     depth = 0
     for found in re.compile(r'/\*|\*/').finditer(text, at):
         depth += 1 if found[0] == '/*' else -1
@@ -57,7 +57,7 @@ def comment_end(text, at):
 
 
 def note_end(text, at):
-    """The end of a comment of antt that begins by a brace, in which others may stand."""
+    """The end of a comment of antt that begins by a brace, which may have others inside."""
     depth = 0
     for found in re.compile(r'\{-|-\}').finditer(text, at):
         depth += 1 if found[0] == '{-' else -1
@@ -67,8 +67,8 @@ def note_end(text, at):
 
 
 def antt_end(text, at, stops):
-    """The end of a piece of antt: at the first of the stops that stands in no braces. A brace that closes what stands
-    around the piece ends it, too, and is no part of it."""
+    """The end of a part of a contract: the first of the stops outside of braces. A brace that closes what is around
+    the part ends it, too, and does not belong to it."""
     depth = 0
     while at < len(text):
         quiet = QUIET.match(text, at)
@@ -160,7 +160,7 @@ def drop(words, first, last):
 
 
 def drop_told(words, at):
-    """Makes the comments gone that stand on the lines above a place and are about what stands there."""
+    """Drops the comments on the lines above a place, which are about what is there."""
     place = at - 1
     while place > 0 and words[place].kind == 'space' and words[place].text.count('\n') == 1:
         told, lead = words[place - 1], words[place - 2] if place > 1 else Word('space', '\n')
