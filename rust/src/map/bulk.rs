@@ -93,6 +93,8 @@ impl<K: Bytes, V> GenericPatriciaMap<K, V> {
             let places = sorted_places::<K, Q, V>(&list)?;
             map.load(places.iter().map(|&(_, at)| &list[at]))?;
         }
+        // before the map is the answer: that would leak if the drop of a value left over panicked
+        drop(list);
         Ok(map)
     }
 
