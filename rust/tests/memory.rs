@@ -151,51 +151,50 @@ fn drain<T>(mut next: impl FnMut() -> Result<Option<T>, AllocError>) -> Result<u
 
 #[test]
 fn a_refused_step_of_an_iterator_is_an_error() {
-    let memory = || is_memory(AllocError);
     let all = |map: &mut Map| {
         let mut iter = map.iter();
         drain(|| iter.try_next())
     };
-    at_each(all, memory(), 40);
-    let all = |map: &mut Map| {
-        let mut iter = map.iter_mut();
-        drain(|| iter.try_next())
-    };
-    at_each(all, memory(), 40);
-    let all = |map: &mut Map| {
-        let mut iter = map.iter_prefix_mut("0");
-        drain(|| iter.try_next())
-    };
-    at_each(all, memory(), 10);
+    at_each(all, is_memory(AllocError), 40);
     let all = |map: &mut Map| {
         let mut iter = map.iter_prefix("0");
         drain(|| iter.try_next())
     };
-    at_each(all, memory(), 10);
-    let all = |map: &mut Map| {
-        let mut values = map.values_mut();
-        drain(|| values.try_next())
-    };
-    at_each(all, memory(), 2);
+    at_each(all, is_memory(AllocError), 10);
     let all = |map: &mut Map| {
         let mut range = map.range("0".."3");
         drain(|| range.try_next())
     };
-    at_each(all, memory(), 30);
+    at_each(all, is_memory(AllocError), 30);
     let all = |map: &mut Map| {
         let mut near = map.within("00é", 1);
         drain(|| near.try_next())
     };
-    at_each(all, memory(), 10);
+    at_each(all, is_memory(AllocError), 10);
     let all = |map: &mut Map| {
         let mut cursor = map.cursor_range("0".."3");
-        drain(|| {
-            cursor
-                .try_advance()
-                .map(|is_at_entry| is_at_entry.then_some(()))
-        })
+        drain(|| Ok(cursor.try_advance()?.then_some(())))
     };
-    at_each(all, memory(), 1);
+    at_each(all, is_memory(AllocError), 1);
+}
+
+#[test]
+fn a_refused_step_of_an_iterator_that_lends_is_an_error() {
+    let all = |map: &mut Map| {
+        let mut iter = map.iter_mut();
+        drain(|| iter.try_next())
+    };
+    at_each(all, is_memory(AllocError), 40);
+    let all = |map: &mut Map| {
+        let mut iter = map.iter_prefix_mut("0");
+        drain(|| iter.try_next())
+    };
+    at_each(all, is_memory(AllocError), 10);
+    let all = |map: &mut Map| {
+        let mut values = map.values_mut();
+        drain(|| values.try_next())
+    };
+    at_each(all, is_memory(AllocError), 2);
 }
 
 /// After an error the lengths that iterators say are 0, and they have ended.

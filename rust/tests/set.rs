@@ -200,6 +200,36 @@ fn retain_and_visits_are_in_order() {
     );
 }
 
+type Model<'a> = BTreeSet<&'a &'static str>;
+
+fn check_combined(one: &[&'static str], other: &[&'static str]) {
+    let (x, y): (Model, Model) = (one.iter().collect(), other.iter().collect());
+    let a: StringPatriciaSet = one.iter().collect();
+    let b: StringPatriciaSet = other.iter().collect();
+    let both: StringPatriciaSet = x.union(&y).collect();
+    assert!(&a | &b == both && a.union(&b) == both && a.try_union(&b) == Ok(both));
+    let common: StringPatriciaSet = x.intersection(&y).collect();
+    assert!(&a & &b == common && a.intersection(&b) == common);
+    assert!(a.try_intersection(&b) == Ok(common));
+    let rest: StringPatriciaSet = x.difference(&y).collect();
+    assert!(&a - &b == rest && a.difference(&b) == rest && a.try_difference(&b) == Ok(rest));
+    assert_eq!(a.is_subset(&b), x.is_subset(&y));
+    assert_eq!(a.try_is_subset(&b), Ok(x.is_subset(&y)));
+    assert_eq!(a.is_superset(&b), x.is_superset(&y));
+    assert_eq!(a.is_disjoint(&b), x.is_disjoint(&y));
+    assert_eq!(a.try_is_disjoint(&b), Ok(x.is_disjoint(&y)));
+}
+
+fn check_appended(one: &[&'static str], other: &[&'static str]) {
+    let mut a: StringPatriciaSet = one.iter().collect();
+    let mut b: StringPatriciaSet = other.iter().collect();
+    let both: Model = one.iter().chain(other).collect();
+    a.append(&mut b);
+    assert!(a.iter().eq(both.iter().map(|key| key.to_string())) && b.is_empty());
+    assert_eq!(b.try_append(&mut a), Ok(()));
+    assert_eq!((a.len(), b.len()), (0, both.len()));
+}
+
 #[test]
 fn sets_are_combined_as_those_of_std() {
     let lists: [&[&str]; 7] = [
@@ -213,36 +243,8 @@ fn sets_are_combined_as_those_of_std() {
     ];
     for one in lists {
         for other in lists {
-            let (x, y) = (BTreeSet::from_iter(one), BTreeSet::from_iter(other));
-            let a: StringPatriciaSet = one.iter().collect();
-            let b: StringPatriciaSet = other.iter().collect();
-            let both: StringPatriciaSet = x.union(&y).collect();
-            assert!(&a | &b == both && a.union(&b) == both && a.try_union(&b) == Ok(both));
-            let common: StringPatriciaSet = x.intersection(&y).collect();
-            assert!(&a & &b == common && a.intersection(&b) == common);
-            assert!(a.try_intersection(&b) == Ok(common));
-            let rest: StringPatriciaSet = x.difference(&y).collect();
-            assert!(
-                &a - &b == rest && a.difference(&b) == rest && a.try_difference(&b) == Ok(rest)
-            );
-            assert_eq!(
-                (a.is_subset(&b), a.try_is_subset(&b)),
-                (x.is_subset(&y), Ok(x.is_subset(&y)))
-            );
-            assert_eq!(a.is_superset(&b), x.is_superset(&y));
-            let is_disjoint = x.is_disjoint(&y);
-            assert_eq!(
-                (a.is_disjoint(&b), a.try_is_disjoint(&b)),
-                (is_disjoint, Ok(is_disjoint))
-            );
-            let (mut a, mut b, mut x, mut y) = (a, b, x, y);
-            a.append(&mut b);
-            x.append(&mut y);
-            assert!(a.iter().eq(x.iter().map(|key| key.to_string())) && b.is_empty());
-            assert_eq!(
-                (b.try_append(&mut a), a.len(), b.len()),
-                (Ok(()), 0, x.len())
-            );
+            check_combined(one, other);
+            check_appended(one, other);
         }
     }
 }
