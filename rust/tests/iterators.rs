@@ -95,10 +95,7 @@ fn iterators_over_parts_end_for_good() {
     }
     let lent = |at: usize| (entries[at].0.clone(), &entries[at].1);
     check_fused(map.range("a".."b"), [lent(1), lent(2), lent(3)]);
-    check_fused(
-        map.within("ab", 1),
-        [lent(1), lent(2), lent(3), lent(4)].into_iter(),
-    );
+    check_fused(map.within("ab", 1), [lent(1), lent(2), lent(3), lent(4)]);
     check_fused(map.common_prefixes("ab"), [("", &0), ("a", &1), ("ab", &2)]);
 }
 

@@ -3,6 +3,11 @@
 //! Most of this file is generic, with the bounds of that crate and no other ones, so that it is
 //! compiled rather than run. That is why it has functions that are not called.
 #![allow(dead_code)]
+#![allow(
+    clippy::multiple_bound_locations,
+    clippy::needless_lifetimes,
+    clippy::type_complexity
+)]
 
 use patricia as patricia_tree;
 use patricia_tree::map::{

@@ -133,8 +133,8 @@ impl<T: Kind> Pair<T> {
         let longest = self.set.longest_many(&lent);
         assert_eq!(longest.len(), count);
         for (key, found) in keys.iter().zip(longest) {
-            let along = self.model.iter().filter(|k| key.starts_with(k));
-            let wanted = along.last().map(|k| k.as_slice());
+            let mut along = self.model.iter().filter(|k| key.starts_with(k));
+            let wanted = along.next_back().map(|k| k.as_slice());
             assert_eq!(found.map(|k| k.as_bytes()), wanted);
         }
     }

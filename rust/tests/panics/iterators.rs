@@ -4,7 +4,7 @@ use crate::{Fuse, Ledger, Map, Model, at_each, same};
 use std::rc::Rc;
 
 /// A key that counts how often it is lent.
-struct Lending<'a>(&'a str, &'a Ledger);
+pub struct Lending<'a>(pub &'a str, pub &'a Ledger);
 
 impl AsRef<str> for Lending<'_> {
     fn as_ref(&self) -> &str {

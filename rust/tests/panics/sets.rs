@@ -1,6 +1,7 @@
 //! Closures and iterators that panic in calls of sets.
 
 use crate::common::Random;
+use crate::iterators::Lending;
 use crate::{Fuse, Ledger, keys};
 use patricia::StringPatriciaSet;
 use std::collections::BTreeSet;
@@ -98,15 +99,6 @@ fn sorted_load_of_an_iterator_that_panics_leaves_the_set() {
         }
         model
     });
-}
-
-struct Lending<'a>(&'a str, &'a Ledger);
-
-impl AsRef<str> for Lending<'_> {
-    fn as_ref(&self) -> &str {
-        self.1.tick(Fuse::Call);
-        self.0
-    }
 }
 
 #[test]
