@@ -33,6 +33,24 @@ fn the_last_entry_of_a_key_counts() {
     }
 }
 
+/// Entries that come in order, but for keys that come twice.
+#[test]
+fn keys_that_come_twice_may_be_side_by_side() {
+    for keys in [
+        ["a", "a", "b"],
+        ["a", "b", "b"],
+        ["", "", "a"],
+        ["b", "b", "b"],
+    ] {
+        let model: BTreeMap<&str, usize> = keys.into_iter().zip(0..).collect();
+        let map: StringPatriciaMap<usize> = keys.into_iter().zip(0..).collect();
+        let wanted = model.iter().map(|(key, value)| (key.to_string(), value));
+        assert!(map.iter().eq(wanted));
+        let read = StringPatriciaMap::try_from_iter(keys.into_iter().zip(0..));
+        assert!(read == Ok(map));
+    }
+}
+
 /// Keys that differ in the first bytes, behind the first eight, or in their length alone.
 #[test]
 fn entries_in_any_order_are_put_in_key_order() {
