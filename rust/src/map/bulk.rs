@@ -114,6 +114,8 @@ impl<K: Bytes, V> GenericPatriciaMap<K, V> {
                 &list[places[i].at]
             }))?;
         }
+        // before the map is the answer: that would leak if the drop of a value left over panicked
+        drop(list);
         Ok(map)
     }
 
