@@ -337,6 +337,17 @@ fn ranges_are_written_as_those_of_std() {
     assert_eq!(bytes.range::<Vec<u8>, _>(..=vec![255]).count(), 2);
 }
 
+/// Behind its range a cursor is at no entry, also if the map has more.
+#[test]
+fn a_cursor_behind_its_range_is_at_none() {
+    let map = map();
+    for mut cursor in [map.cursor_range("a".."ab"), map.cursor_prefix("bé")] {
+        assert!(cursor.advance() && !cursor.advance());
+        assert_eq!((cursor.key(), cursor.key_bytes()), (None, None));
+        assert_eq!((cursor.value(), cursor.next_entry()), (None, None));
+    }
+}
+
 #[test]
 fn within_is_a_cursor_too() {
     let map = StringPatriciaMap::from_iter([("prefix", 1), ("suffix", 2), ("pré", 3)]);
