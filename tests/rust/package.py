@@ -62,7 +62,7 @@ def cargo(package, words, room, workbench=False, rustc='', rustdoc='', output=Fa
     flags = '--cfg workbench' if workbench else rustc
     kind = 'workbench' if workbench else 'strict' if rustc else 'plain'
     env = {**os.environ, 'CARGO_TARGET_DIR': os.path.join(room, 'target', kind), 'RUSTFLAGS': flags,
-           'RUSTDOCFLAGS': rustdoc or flags, **env}
+           'RUSTDOCFLAGS': rustdoc or flags, 'CARGO_PROFILE_DEV_DEBUG': '0', **env}
     pipes = {'stdout': subprocess.PIPE, 'stderr': subprocess.STDOUT, 'encoding': 'utf-8'} if output else {}
     given = {'stdin': subprocess.DEVNULL} if data is None else {'input': data}
     return subprocess.run(['cargo', words[0], '--offline', *source, *words[1:]], cwd=package, env=env, check=False,

@@ -208,7 +208,8 @@ impl<K: Bytes, V> GenericPatriciaMap<K, V> {
     }
 
     /// Puts the entries of another map in. If both have a key, a closure is called at the value
-    /// here and the other one.
+    /// here and the other one. If it panics, the entries before that key are here, the value here
+    /// stays, and the other entries that are left are dropped.
     ///
     /// ```
     /// use patricia::StringPatriciaMap;
