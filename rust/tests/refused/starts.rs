@@ -149,7 +149,12 @@ pub fn probes<K: Key>(start: Start) -> Vec<K> {
     keys.push(K::of(&("xy".repeat(150) + "a")));
     keys.push(K::of(&"xy".repeat(100)));
     let held: Vec<K> = map::<K>(start).keys().collect();
-    let some = held.len() / 20 + 1;
+    let most = if matches!(start, Start::Copied) {
+        20
+    } else {
+        8
+    };
+    let some = held.len() / most + 1;
     keys.extend(held.into_iter().step_by(some));
     keys
 }

@@ -88,13 +88,20 @@ macro_rules! over {
     ($name:ident, $after:ident, $kind:ident, |$over:ident, $key:ident| $take:expr) => {
         over!($name, $after, $kind, STARTS, |$over, $key| $take);
     };
-    ($name:ident, $after:ident, $kind:ident, $starts:expr, |$over:ident, $key:ident| $take:expr) => {
+    (
+        $name:ident, $after:ident, $kind:ident, $starts:expr, |$over:ident, $key:ident| $take:expr
+    ) => {
         #[test]
         fn $name() {
             fn check<K: Key>() {
                 let mut requests = 0;
                 for start in $starts {
-                    let few = 10 / $starts.len() + 2;
+                    let is_used = !stringify!($key).starts_with('_');
+                    let few = if is_used {
+                        10 / $starts.len() + 2
+                    } else {
+                        1000
+                    };
                     for $key in probes::<K>(start).into_iter().step_by(few) {
                         requests += turns(|| starts::$kind::<K>(start), |$over| $take, $after);
                     }
