@@ -185,7 +185,8 @@ impl<K: Bytes, V> FusedIterator for Range<'_, K, V> {}
 /// The entries whose keys are few edits from a key, in key order: a cursor, which lends them, and
 /// an iterator, which makes each key.
 pub struct Within<'a, 'b, K: Bytes, V: 'a> {
-    cursor: NearCursor<'a, Key<'b, K>, V>,
+    // none after a key could not be made
+    cursor: Option<NearCursor<'a, Key<'b, K>, V>>,
 }
 
 impl<K: Bytes, V> fmt::Debug for Within<'_, '_, K, V> {
@@ -197,7 +198,7 @@ impl<K: Bytes, V> fmt::Debug for Within<'_, '_, K, V> {
 impl<'a, 'b, K: Bytes, V: 'a> Within<'a, 'b, K, V> {
     pub(crate) fn new(map: &'a Proved<K, V>, key: Key<'b, K>, limit: u32) -> Self {
         Within {
-            cursor: map.within(key, limit),
+            cursor: Some(map.within(key, limit)),
         }
     }
 
@@ -208,28 +209,38 @@ impl<'a, 'b, K: Bytes, V: 'a> Within<'a, 'b, K, V> {
 
     /// Does as `advance`. If memory runs out it returns an error, and the cursor has ended.
     pub fn try_advance(&mut self) -> Result<bool, AllocError> {
-        self.cursor.advance()
+        match &mut self.cursor {
+            Some(cursor) => cursor.advance(),
+            None => Ok(false),
+        }
     }
 
     /// Returns the key of the entry at which the cursor is, if it is at one.
     pub fn key(&self) -> Option<&K::Borrowed> {
-        self.cursor.key().map(K::Borrowed::from_bytes)
+        let bytes = self.cursor.as_ref()?.key();
+        bytes.map(K::Borrowed::from_bytes)
     }
 
     /// Returns the value of the entry at which the cursor is, if it is at one.
     pub fn value(&self) -> Option<&'a V> {
-        self.cursor.value()
+        self.cursor.as_ref()?.value()
     }
 
-    /// Returns the next entry with its key made, or an error if memory runs out.
+    /// Returns the next entry with its key made. If memory runs out it returns an error, and the
+    /// iterator has ended.
     pub fn try_next(&mut self) -> Result<Option<(K, &'a V)>, AllocError> {
         if !self.try_advance()? {
             return Ok(None);
         }
-        match (self.cursor.key(), self.cursor.value()) {
-            (Some(bytes), Some(value)) => Ok(Some((K::try_from_bytes(bytes)?, value))),
-            _ => Ok(None),
+        let at = self.cursor.as_ref();
+        let Some((bytes, value)) = at.and_then(|at| at.key().zip(at.value())) else {
+            return Ok(None);
+        };
+        let key = K::try_from_bytes(bytes);
+        if key.is_err() {
+            self.cursor = None;
         }
+        Ok(Some((key?, value)))
     }
 }
 

@@ -15,6 +15,7 @@ use crate::rt::alloc::{AllocError, Global};
 use crate::rt::vec::Vec as ProvedVec;
 use core::fmt;
 use core::iter::FusedIterator;
+use core::mem;
 
 /// Debug of iterators, which names their types.
 macro_rules! debug_by_name {
@@ -89,21 +90,27 @@ impl<K: Bytes, V> FusedIterator for Iter<'_, K, V> {}
 /// An iterator over the entries of a map whose keys begin with a prefix, in key order. It makes
 /// each key.
 pub struct IterPrefix<'a, K, V: 'a> {
-    walk: Result<Walk<'a, Owned<K>, V>, AllocError>,
+    walk: Walk<'a, Owned<K>, V>,
+    // whether memory ran out when it was made, which the first step says
+    is_refused: bool,
 }
 
 impl<'a, K: Bytes, V: 'a> IterPrefix<'a, K, V> {
     pub(crate) fn new(map: &'a Proved<K, V>, prefix: Key<'_, K>) -> Self {
+        let walk = walk_under(map, prefix);
         IterPrefix {
-            walk: walk_under(map, prefix),
+            is_refused: walk.is_err(),
+            walk: walk.unwrap_or_else(|_| Walk::ended(Global, &map.tree.parts.arena)),
         }
     }
 
     /// Returns the next entry, or an error if memory runs out.
     #[inline]
     pub fn try_next(&mut self) -> Result<Option<(K, &'a V)>, AllocError> {
-        let walk = self.walk.as_mut().map_err(|error| *error)?;
-        match walk.next() {
+        if mem::take(&mut self.is_refused) {
+            return Err(AllocError);
+        }
+        match self.walk.next() {
             Some(Ok((key, value))) => Ok(Some((key.0, value))),
             Some(Err(error)) => Err(error),
             None => Ok(None),

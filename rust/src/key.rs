@@ -34,7 +34,7 @@ pub trait Bytes {
 ///
 /// # The law
 ///
-/// A key is a list of *items*: bytes in byte strings, characters in texts. Each item is one or more
+/// A key is a list of *items*: bytes in byte strings, characters in texts. Each item is 1 to 255
 /// bytes, none begins another one, and which lists of bytes are items depends on nothing else. Keys
 /// are compared by their bytes, and labels of the tree are cut between items only. So, with `key`
 /// of this kind:
@@ -222,6 +222,9 @@ fn lend<B: ?Sized + ToOwned>(owned: &B::Owned) -> &B {
     owned.borrow()
 }
 
+/// The most bytes of an item.
+const LONGEST_ITEM: usize = 255;
+
 /// An owned key as the proved code sees it.
 pub struct Owned<K>(pub(crate) K);
 
@@ -241,9 +244,13 @@ impl<K: Bytes> ProvedBytes for Owned<K> {
         lend::<K::Borrowed>(&self.0).as_bytes()
     }
 
+    // a kind that breaks the law must not have the same part of a label written again and again
     #[inline]
     fn floor_boundary(bytes: &[u8]) -> usize {
-        K::Borrowed::floor_boundary(bytes)
+        let floor = K::Borrowed::floor_boundary(bytes);
+        let is_whole = floor > 0 || bytes.len() < LONGEST_ITEM;
+        assert!(is_whole, "no item of a key has more than 255 bytes");
+        floor
     }
 }
 

@@ -180,8 +180,8 @@ impl<T: Bytes> GenericPatriciaSet<T> {
         need(self.try_count_prefix(prefix))
     }
 
-    /// Does as `count_prefix`. Memory is needed only if nodes are more than 64 deep below the
-    /// prefix.
+    /// Does as `count_prefix`. Memory is needed only if some element has more than 64 bytes behind
+    /// the prefix.
     pub fn try_count_prefix<U>(&self, prefix: U) -> Result<usize, AllocError>
     where
         U: AsRef<T::Borrowed>,

@@ -72,6 +72,15 @@ where
     Ok(places)
 }
 
+/// Takes the result of a load of entries that were sorted.
+fn in_order(loaded: Result<(), LoadError>) -> Result<(), AllocError> {
+    match loaded {
+        Ok(()) => Ok(()),
+        Err(LoadError::Memory) => Err(AllocError),
+        Err(LoadError::NotInOrder) => panic!("the bytes of a key have changed"),
+    }
+}
+
 /// Collects entries, or returns an error if memory runs out.
 fn try_collect<T>(entries: impl Iterator<Item = T>) -> Result<Vec<T>, AllocError> {
     let mut list = ProvedVec::with_capacity(Global, entries.size_hint().0)?;
@@ -97,22 +106,23 @@ impl<K: Bytes, V> GenericPatriciaMap<K, V> {
     }
 
     /// Makes a map of a list of entries in any order.
-    pub(crate) fn from_list<Q>(list: Vec<Entry<Q, V>>) -> Result<Self, LoadError>
+    pub(crate) fn from_list<Q>(list: Vec<Entry<Q, V>>) -> Result<Self, AllocError>
     where
         Q: AsRef<K::Borrowed>,
     {
         let mut map = Self::new();
         if list.is_sorted_by(|x, y| bytes::<K, Q, V>(x) < bytes::<K, Q, V>(y)) {
-            map.load(list.iter())?;
+            in_order(map.load(list.iter()))?;
         } else {
             let places = sorted_places::<K, Q, V>(&list)?;
-            map.load((0..places.len()).map(|i| {
+            let loaded = map.load((0..places.len()).map(|i| {
                 // the wait for a later key overlaps with the load of this one
                 if let Some(later) = places.get(i + AHEAD) {
                     black_box(bytes::<K, Q, V>(&list[later.at]).first());
                 }
                 &list[places[i].at]
-            }))?;
+            }));
+            in_order(loaded)?;
         }
         // before the map is the answer: that would leak if the drop of a value left over panicked
         drop(list);
@@ -127,7 +137,7 @@ impl<K: Bytes, V> GenericPatriciaMap<K, V> {
         I: IntoIterator<Item = (Q, V)>,
     {
         let list = try_collect(entries.into_iter().map(entry))?;
-        Self::from_list(list).map_err(|_| AllocError)
+        Self::from_list(list)
     }
 
     /// Inserts entries in turn. If memory runs out, those before the one for which it ran out are

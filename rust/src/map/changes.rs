@@ -70,7 +70,7 @@ impl<K: Bytes, V> GenericPatriciaMap<K, V> {
         need(self.try_count_prefix(prefix))
     }
 
-    /// Does as `count_prefix`. Memory is needed only if nodes are more than 64 deep below the
+    /// Does as `count_prefix`. Memory is needed only if some key has more than 64 bytes behind the
     /// prefix.
     pub fn try_count_prefix<Q>(&self, prefix: Q) -> Result<usize, AllocError>
     where
