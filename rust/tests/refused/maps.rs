@@ -141,6 +141,15 @@ fn changes<K: Key>() {
             |model, key| split(model, key).len(),
             out,
         ),
+    ];
+    assert!(
+        requests.iter().all(|requests| *requests > 0),
+        "{requests:?}"
+    );
+}
+
+fn changes_under_prefixes<K: Key>() {
+    let requests = [
         steady::<K, _, _>(
             |map, key| map.try_count_prefix(key),
             |model, key| split(&mut model.clone(), key).len(),
@@ -169,6 +178,8 @@ fn changes<K: Key>() {
 fn a_refused_change_leaves_the_map() {
     changes::<Vec<u8>>();
     changes::<String>();
+    changes_under_prefixes::<Vec<u8>>();
+    changes_under_prefixes::<String>();
 }
 
 fn ends<K: Key>() {
@@ -200,6 +211,15 @@ fn ends<K: Key>() {
             },
             out,
         ),
+    ];
+    assert!(
+        requests.iter().all(|requests| *requests > 0),
+        "{requests:?}"
+    );
+}
+
+fn pops<K: Key>() {
+    let requests = [
         steady::<K, _, _>(
             |map, _| map.try_pop_first().map(popped),
             |model, _| model.pop_first(),
@@ -221,6 +241,8 @@ fn ends<K: Key>() {
 fn a_refused_end_leaves_the_map() {
     ends::<Vec<u8>>();
     ends::<String>();
+    pops::<Vec<u8>>();
+    pops::<String>();
 }
 
 /// Keys of which some are there, more than are looked up at once.
@@ -234,13 +256,6 @@ fn lists<K: Key>() {
         keys.iter()
             .map(|key| model.get(key.bytes()).copied())
             .collect()
-    };
-    let longest = |model: &Model, key: &K| {
-        let found = model
-            .iter()
-            .rev()
-            .find(|entry| key.bytes().starts_with(entry.0));
-        found.map(|entry| *entry.1)
     };
     let requests = [
         steady::<K, Vec<Option<u32>>, _>(
@@ -260,15 +275,30 @@ fn lists<K: Key>() {
             },
             out,
         ),
-        steady::<K, Vec<Option<u32>>, _>(
-            |map, _| {
-                let found = map.try_longest_many(&keys);
-                found.map(|found| found.into_iter().map(|v| v.map(|v| *v.1)).collect())
-            },
-            |model, _| keys.iter().map(|key| longest(model, key)).collect(),
-            out,
-        ),
     ];
+    assert!(
+        requests.iter().all(|requests| *requests > 0),
+        "{requests:?}"
+    );
+}
+
+fn longest_lists<K: Key>() {
+    let keys = keys::<K>();
+    let longest = |model: &Model, key: &K| {
+        let found = model
+            .iter()
+            .rev()
+            .find(|entry| key.bytes().starts_with(entry.0));
+        found.map(|entry| *entry.1)
+    };
+    let requests = [steady::<K, Vec<Option<u32>>, _>(
+        |map, _| {
+            let found = map.try_longest_many(&keys);
+            found.map(|found| found.into_iter().map(|v| v.map(|v| *v.1)).collect())
+        },
+        |model, _| keys.iter().map(|key| longest(model, key)).collect(),
+        out,
+    )];
     assert!(
         requests.iter().all(|requests| *requests > 0),
         "{requests:?}"
@@ -279,6 +309,8 @@ fn lists<K: Key>() {
 fn a_refused_list_leaves_the_map() {
     lists::<Vec<u8>>();
     lists::<String>();
+    longest_lists::<Vec<u8>>();
+    longest_lists::<String>();
 }
 
 fn equals<K: Key>() {

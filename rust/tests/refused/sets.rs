@@ -90,6 +90,9 @@ fn changes<K: Key>() {
         |set, _| set.try_pop_last().map(owned),
         |model, _| model.pop_last(),
     );
+}
+
+fn retains<K: Key>() {
     steady::<K, _>(
         |set, _| {
             let mut n = 0;
@@ -109,6 +112,8 @@ fn changes<K: Key>() {
 fn a_refused_change_leaves_the_set() {
     changes::<Vec<u8>>();
     changes::<String>();
+    retains::<Vec<u8>>();
+    retains::<String>();
 }
 
 fn looks<K: Key>() {
@@ -142,6 +147,9 @@ fn looks<K: Key>() {
                 .cloned()
         },
     );
+}
+
+fn lists<K: Key>() {
     let keys: Vec<K> = STARTS.into_iter().flat_map(probes::<K>).collect();
     steady::<K, Vec<bool>>(
         |set, _| set.try_contains_many(&keys),
@@ -163,6 +171,8 @@ fn looks<K: Key>() {
 fn a_refused_look_up_leaves_the_set() {
     looks::<Vec<u8>>();
     looks::<String>();
+    lists::<Vec<u8>>();
+    lists::<String>();
 }
 
 fn pairs<K: Key>() {

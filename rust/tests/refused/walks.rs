@@ -82,29 +82,41 @@ fn turns<S, T: Debug>(
     in_turn(make, take, |_, result| check(&all, result))
 }
 
-/// Makes a test of an iterator: what has to be after an error, over a map or a set, and how its
-/// items are taken.
-macro_rules! over {
-    ($name:ident, $after:ident, $kind:ident, |$over:ident, $key:ident| $take:expr) => {
-        over!($name, $after, $kind, STARTS, |$over, $key| $take);
+/// The starts, each with an empty key, for walks that have no key.
+fn each<K: Key>() -> Vec<(Start, K)> {
+    STARTS.map(|start| (start, K::of(""))).into()
+}
+
+/// The starts, each with some of its keys.
+fn some<K: Key>() -> Vec<(Start, K)> {
+    let with_keys = |start| {
+        let keys = probes::<K>(start).into_iter().step_by(3);
+        keys.map(move |key| (start, key))
     };
+    STARTS.into_iter().flat_map(with_keys).collect()
+}
+
+/// Small starts with short keys, for searches by distance, which make a request for each item of
+/// each key.
+fn near<K: Key>() -> Vec<(Start, K)> {
+    let keys = ["", "a", "éb", "aab", "cab"];
+    let with_keys = |start| keys.map(|key| (start, K::of(key)));
+    let starts = [Start::Empty, Start::EmptyKey, Start::Worn(90)];
+    starts.into_iter().flat_map(with_keys).collect()
+}
+
+/// Makes a test of an iterator: what has to be after an error, over a map or a set, with which
+/// starts and keys, and how its items are taken.
+macro_rules! over {
     (
-        $name:ident, $after:ident, $kind:ident, $starts:expr, |$over:ident, $key:ident| $take:expr
+        $name:ident, $after:ident, $kind:ident, $cases:ident, |$over:ident, $key:ident| $take:expr
     ) => {
         #[test]
         fn $name() {
             fn check<K: Key>() {
                 let mut requests = 0;
-                for start in $starts {
-                    let is_used = !stringify!($key).starts_with('_');
-                    let few = if is_used {
-                        10 / $starts.len() + 2
-                    } else {
-                        1000
-                    };
-                    for $key in probes::<K>(start).into_iter().step_by(few) {
-                        requests += turns(|| starts::$kind::<K>(start), |$over| $take, $after);
-                    }
+                for (start, $key) in $cases::<K>() {
+                    requests += turns(|| starts::$kind::<K>(start), |$over| $take, $after);
                 }
                 assert!(requests > 0, "it makes no request");
             }
@@ -113,9 +125,6 @@ macro_rules! over {
         }
     };
 }
-
-/// The starts of searches by distance, which make a request for each row of each item.
-const NEAR: [Start; 2] = [Start::EmptyKey, Start::Worn(40)];
 
 fn copied<K>(item: Option<(K, &u32)>) -> Option<(K, u32)> {
     item.map(|(key, value)| (key, *value))
@@ -126,70 +135,70 @@ fn changed<K>(item: Option<(K, &mut u32)>) -> Option<(K, u32)> {
 }
 
 // calls of map::Iter
-over!(iter_ends, ended, map, |map, _key| {
+over!(iter_ends, ended, map, each, |map, _key| {
     let mut iter: Iter<K, u32> = map.iter();
     drain(|| iter.try_next().map(copied))
 });
 
 // calls of map::IterPrefix
-over!(iter_prefix_ends, ended, map, |map, key| {
+over!(iter_prefix_ends, ended, map, some, |map, key| {
     let mut iter: IterPrefix<K, u32> = map.iter_prefix(key.as_ref());
     drain(|| iter.try_next().map(copied))
 });
 
 // calls of map::Keys
-over!(keys_end, ended, map, |map, _key| {
+over!(keys_end, ended, map, each, |map, _key| {
     let mut iter: Keys<K, u32> = map.keys();
     drain(|| iter.try_next())
 });
 
 // calls of map::Values
-over!(values_end, ended, map, |map, _key| {
+over!(values_end, ended, map, each, |map, _key| {
     let mut iter: Values<u32> = map.values();
     drain(|| iter.try_next().map(|value| value.copied()))
 });
 
 // calls of map::IntoIter
-over!(into_iter_ends, ended, map, |map, _key| {
+over!(into_iter_ends, ended, map, each, |map, _key| {
     let mut iter: IntoIter<K, u32> = std::mem::take(map).into_iter();
     drain(|| iter.try_next())
 });
 
 // calls of map::IterMut
-over!(iter_mut_retries, retried, map, |map, _key| {
+over!(iter_mut_retries, retried, map, each, |map, _key| {
     let mut iter: IterMut<K, u32> = map.iter_mut();
     drain(|| iter.try_next().map(changed))
 });
 
 // calls of map::IterPrefixMut
-over!(iter_prefix_mut_retries, retried, map, |map, key| {
+over!(iter_prefix_mut_retries, retried, map, some, |map, key| {
     let mut iter: IterPrefixMut<K, u32> = map.iter_prefix_mut(key.as_ref());
     drain(|| iter.try_next().map(changed))
 });
 
 // calls of map::ValuesMut
-over!(values_mut_retry, retried, map, |map, _key| {
+over!(values_mut_retry, retried, map, each, |map, _key| {
     let mut iter: ValuesMut<u32> = map.values_mut();
     drain(|| iter.try_next().map(|value| value.copied()))
 });
 
 // calls of map::Range
-over!(range_ends, ended, map, |map, key| {
+over!(range_ends, ended, map, some, |map, key| {
     let mut iter: Range<K, u32> = map.range::<&K, _>(&key..);
     drain(|| iter.try_next().map(copied))
 });
-over!(range_to_ends, ended, map, |map, key| {
+over!(range_to_ends, ended, map, some, |map, key| {
     let mut iter: Range<K, u32> = map.range::<&K, _>(..=&key);
     drain(|| iter.try_next().map(copied))
 });
 
 // calls of map::Within
-over!(within_ends, ended, map, NEAR, |map, key| {
-    let mut iter: Within<K, u32> = map.within(&key, 1);
+over!(within_ends, ended, map, near, |map, key| {
+    let mut iter: Within<K, u32> = map.within(&key, 2);
     drain(|| iter.try_next().map(copied))
 });
-over!(within_lends_to_its_end, ended, map, NEAR, |map, key| {
-    let mut cursor: Within<K, u32> = map.within(&key, 1);
+over!(within_lends_to_its_end, ended, map, near, |map, key| {
+    let mut cursor: Within<K, u32> = map.within(&key, 2);
     drain(|| {
         cursor
             .try_advance()
@@ -198,7 +207,7 @@ over!(within_lends_to_its_end, ended, map, NEAR, |map, key| {
 });
 
 // calls of map::Cursor
-over!(cursor_ends, ended, map, |map, key| {
+over!(cursor_ends, ended, map, some, |map, key| {
     let mut cursor: Cursor<K, u32> = map.cursor_from(key.as_ref());
     drain(|| {
         let is_at = cursor.try_advance();
@@ -209,47 +218,47 @@ over!(cursor_ends, ended, map, |map, key| {
         is_at.map(|is_at| is_at.then(|| cursor.key_bytes().unwrap().to_vec()))
     })
 });
-over!(cursor_of_entries_ends, ended, map, |map, key| {
+over!(cursor_of_entries_ends, ended, map, some, |map, key| {
     let mut cursor: Cursor<K, u32> = map.cursor_prefix(key.as_ref());
     drain(|| cursor.try_next_entry().map(copied))
 });
 
 // calls of set::Iter
-over!(elements_end, ended, set, |set, _key| {
+over!(elements_end, ended, set, each, |set, _key| {
     let mut iter: set::Iter<K> = set.iter();
     drain(|| iter.try_next())
 });
 
 // calls of set::IterPrefix
-over!(elements_under_a_prefix_end, ended, set, |set, key| {
+over!(elements_under_a_prefix_end, ended, set, some, |set, key| {
     let mut iter: set::IterPrefix<K> = set.iter_prefix(key.as_ref());
     drain(|| iter.try_next())
 });
 
 // calls of set::IntoIter
-over!(owned_elements_end, ended, set, |set, _key| {
+over!(owned_elements_end, ended, set, each, |set, _key| {
     let mut iter: set::IntoIter<K> = std::mem::take(set).into_iter();
     drain(|| iter.try_next())
 });
 
 // calls of set::Range
-over!(elements_of_a_range_end, ended, set, |set, key| {
+over!(elements_of_a_range_end, ended, set, some, |set, key| {
     let mut iter: set::Range<K> = set.range::<&K, _>(&key..);
     drain(|| iter.try_next())
 });
 
 // calls of set::Within
-over!(near_elements_end, ended, set, NEAR, |set, key| {
-    let mut iter: set::Within<K> = set.within(&key, 1);
+over!(near_elements_end, ended, set, near, |set, key| {
+    let mut iter: set::Within<K> = set.within(&key, 2);
     drain(|| iter.try_next())
 });
 over!(
     near_elements_are_lent_to_the_end,
     ended,
     set,
-    NEAR,
+    near,
     |set, key| {
-        let mut cursor: set::Within<K> = set.within(&key, 1);
+        let mut cursor: set::Within<K> = set.within(&key, 2);
         drain(|| {
             let is_at = cursor.try_advance()?;
             Ok(is_at.then(|| cursor.key().is_some()))
