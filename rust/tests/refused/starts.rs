@@ -55,7 +55,7 @@ pub const STARTS: [Start; 7] = [
     Start::Empty,
     Start::EmptyKey,
     Start::Worn(40),
-    Start::Worn(400),
+    Start::Worn(150),
     Start::Long,
     Start::Deep,
     Start::Copied,
