@@ -20,7 +20,8 @@ from expected import excepted, expected  # noqa: E402
 from tokens import Unreadable, scan  # noqa: E402
 
 ROOT = os.path.dirname(os.path.dirname(HERE))
-ALLOWED = '#![allow(clippy::all, dead_code, unused_imports, unused_variables)] '
+ALLOWED = ('#![allow(clippy::all, dead_code, unused_imports, unused_variables)] '
+           '#![warn(clippy::incompatible_msrv)] ')
 
 
 def arguments(words):

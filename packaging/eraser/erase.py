@@ -23,6 +23,7 @@ from words import Mistake, split, text_of  # noqa: E402
 ROOT = os.path.dirname(os.path.dirname(HERE))
 HEAD = """//! The proved crates as ordinary Rust: made by `packaging/eraser/erase.py`, and not to be edited.
 #![allow(clippy::all, dead_code, unused_imports, unused_variables)]
+#![warn(clippy::incompatible_msrv)]
 
 """
 

@@ -299,7 +299,7 @@ impl Place {
             walk!(set.cursor_prefix(units), random),
             walk!(set.cursor_from(units), random),
             walk!(set.cursor_range(random.bounds()), random),
-            set.for_each(|element| see(element)),
+            set.for_each(see),
             set.contains_many(&random.keys()),
             set.longest_many(&random.keys()).len(),
         );

@@ -45,7 +45,7 @@ pub const LAWFUL: Kind = Kind {
     bytes: |key| key,
     made_of: |bytes| bytes,
     owned: |bytes| bytes.to_vec(),
-    is_valid: |len| len.is_multiple_of(kind().width),
+    is_valid: |len| len % kind().width == 0,
     stripped: |_, shared| shared,
     said: |stripped| stripped,
     order: |order| order,
