@@ -184,7 +184,12 @@ impl<T: Bytes> GenericPatriciaSet<T> {
 
     /// Returns whether this set has all elements of the other one.
     pub fn is_superset(&self, other: &Self) -> bool {
-        other.is_subset(self)
+        need(self.try_is_superset(other))
+    }
+
+    /// Does as `is_superset`, or returns an error if memory runs out for the path.
+    pub fn try_is_superset(&self, other: &Self) -> Result<bool, AllocError> {
+        other.try_is_subset(self)
     }
 
     /// Returns whether the sets have no element in common.

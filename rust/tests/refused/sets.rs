@@ -199,6 +199,10 @@ fn pairs<K: Key>() {
         |model, _| model.is_subset(&others),
     );
     steady::<K, _>(
+        |set, _| set.try_is_superset(&other),
+        |model, _| model.is_superset(&others),
+    );
+    steady::<K, _>(
         |set, _| set.try_is_disjoint(&other),
         |model, _| model.is_disjoint(&others),
     );
