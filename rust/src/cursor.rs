@@ -29,7 +29,7 @@ pub struct Cursor<'a, K, V: 'a> {
 /// A walk, and the key before which it ends.
 type Bounded<'a, K, V> = (Walk<'a, Owned<K>, V>, Option<Vec<u8>>);
 
-/// The least key after a key: it with one byte behind it.
+/// The least key after a key: the key with a zero byte appended.
 fn successor(key: &[u8]) -> Result<Vec<u8>, AllocError> {
     let mut next = Vec::with_capacity(Global, key.len() + 1)?;
     next.extend_from_slice(key)?;

@@ -30,7 +30,7 @@ impl<V> From<Refused<V>> for AllocError {
     }
 }
 
-/// The tree is too deep for an encoding: a node lies deeper than level 65,535, or 4,294,967,295 in
+/// The tree is too deep for an encoding: a node is deeper than level 65,535, or 4,294,967,295 in
 /// the wide encoding. Only keys of more than that many items make such a tree.
 #[derive(Clone, Copy, Debug, PartialEq, Eq)]
 pub struct TooDeep;

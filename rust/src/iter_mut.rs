@@ -38,8 +38,8 @@ fn number(link: Link) -> Option<usize> {
     link.get().map(|id| id.index())
 }
 
-/// Lists nodes in key order: siblings from `first` on with all below them, each behind `front`
-/// bytes.
+/// Lists nodes in key order: the siblings from `first` on with all below them, whose keys have
+/// `front` bytes before the labels of these siblings.
 fn list_steps<V>(
     store: &Store<V>,
     first: Option<usize>,
@@ -50,10 +50,10 @@ fn list_steps<V>(
     let (mut next, mut front) = (first, front);
     loop {
         let Some(id) = next else {
-            let Some((sibling, behind)) = waiting.pop() else {
+            let Some((sibling, before)) = waiting.pop() else {
                 return Ok(());
             };
-            (next, front) = (Some(sibling), behind);
+            (next, front) = (Some(sibling), before);
             continue;
         };
         let span = span_of(store.heads[id], &store.bodies[id]);
@@ -194,13 +194,13 @@ fn lend_some<'a, V>(
     let mut rest: &mut [Body<V>] = bodies;
     let mut passed = 0;
     for &(id, at) in order.iter() {
-        let (_, behind) = mem::take(&mut rest).split_at_mut(id - passed);
-        let Some((body, behind)) = behind.split_first_mut() else {
+        let (_, after) = mem::take(&mut rest).split_at_mut(id - passed);
+        let Some((body, after)) = after.split_first_mut() else {
             break;
         };
         steps[at].slot = slots.len();
         slots.push_reserved(body.value_mut());
-        (rest, passed) = (behind, id + 1);
+        (rest, passed) = (after, id + 1);
     }
     Ok(slots)
 }

@@ -48,12 +48,15 @@
 //!
 //! # What is proved
 //!
-//! The module `proved` is the text of the Rattle sources of `patricia_tree` without its contracts,
-//! made by a program that a second one checks. Rattle's checker has proved that this text means a
-//! finite map, never panics and always ends. Not proved are: the two programs; the module `rt`,
-//! which stands for Rattle's standard library over Rust's; the rest of this crate, which are the
-//! calls over it; and Rust's compiler in place of Rattle's. The crate has no unsafe code and no
-//! dependency, so a fault in any of these is a wrong answer or a panic.
+//! The library is written in Rattle: Rust with contracts, which a checker proves. The module
+//! `proved` is the text of its sources without the contracts. A program removes them, and a second
+//! program checks that nothing else is removed or changed. For this text it is proved that each call
+//! has the answer of a finite map, that no call panics, and that each call ends.
+//!
+//! Not proved are these two programs, the module `rt`, which implements Rattle's standard library
+//! with Rust's, and the other modules of this crate, which define its public types. Rust's compiler
+//! replaces Rattle's. The crate has no unsafe code, so a fault in any of these is a wrong answer or a
+//! panic.
 //!
 //! On targets with 32-bit pointers the crate is tested and not proved: a `usize` has 64 bits in the
 //! proofs.

@@ -127,8 +127,8 @@ impl<K: Bytes, V> GenericPatriciaMap<K, V> {
         Some((part.get(), value))
     }
 
-    /// Returns the length in bytes of the longest front of the key, in whole items, with which some
-    /// key of the map begins, too.
+    /// Returns the length in bytes of the longest prefix of the key, in whole items, that is also a
+    /// prefix of some key of the map.
     ///
     /// ```
     /// use patricia::PatriciaMap;

@@ -1,5 +1,5 @@
-//! Calls that the types have for any `K`, where those of the proved code want a kind of keys. None
-//! of them looks at a key.
+//! Calls that the types have for any `K`, while those of the proved code require a kind of keys.
+//! None of them reads a key.
 
 use crate::key::Owned;
 use crate::proved::patricia_core::tree::Tree;

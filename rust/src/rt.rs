@@ -1,4 +1,5 @@
-//! What the erased sources use of the kit's `std`, over Rust's own.
+//! The part of the kit's `std` that the erased sources use, implemented with Rust's `core` and
+//! `alloc`.
 pub use core::{cmp, fmt, mem, str};
 use memory::string::String;
 
@@ -10,7 +11,7 @@ pub mod prelude {
     pub use memory::string::String;
 }
 
-/// What a proof has shown: a constant's is evaluated, a function's tested in debug builds.
+/// What a proof has shown, which the compiler evaluates: the sources use it only in constants.
 #[macro_export]
 macro_rules! prove {
     ($($t:tt)*) => { assert!($($t)*) };
@@ -45,7 +46,7 @@ pub mod alloc {
         }
     }
 
-    /// A copy that may be refused. For Rust's own types it aborts where memory runs out.
+    /// A copy that may fail. That of a type of Rust aborts if memory runs out.
     pub trait Clone: Sized {
         fn clone(&self) -> Result<Self, AllocError>;
     }
@@ -92,7 +93,7 @@ pub mod marker {
 }
 
 pub mod sync {
-    /// Counts that contracts alone can see: nothing is left of them.
+    /// Counts that only contracts use. They have no bytes at run time.
     pub mod ledger {
         use core::marker::PhantomData;
 
@@ -123,7 +124,7 @@ pub mod sync {
     }
 }
 
-/// Requests for memory, of which a test can have one refused. Only the workbench counts them.
+/// Requests for memory. In the workbench a test can make one of them fail.
 pub mod requests {
     #[cfg(workbench)]
     extern crate std;
@@ -136,8 +137,8 @@ pub mod requests {
         static REFUSED: Cell<usize> = const { Cell::new(0) };
     }
 
-    /// Begins to count the requests of this thread, and has the one of this number refused, from 1
-    /// on; with 0 none is.
+    /// Starts to count the requests of this thread, and makes the one of this number fail, counted
+    /// from 1. With 0 none fails.
     #[cfg(workbench)]
     pub fn refuse(number: usize) {
         MADE.set(0);
@@ -150,14 +151,14 @@ pub mod requests {
         MADE.get()
     }
 
-    /// Counts a request, and says whether it is to be refused.
+    /// Counts a request, and returns whether it is to fail.
     #[cfg(workbench)]
     pub fn is_refused() -> bool {
         MADE.set(MADE.get() + 1);
         MADE.get() == REFUSED.get()
     }
 
-    /// Whether a request is to be refused: none is.
+    /// Returns whether a request is to fail: none is.
     #[cfg(not(workbench))]
     #[inline(always)]
     pub fn is_refused() -> bool {
@@ -165,7 +166,7 @@ pub mod requests {
     }
 }
 
-/// `String` is Rust's, with what is made of a text.
+/// Calls that the kit's `String` has and Rust's has not.
 pub trait StringExt: Sized {
     fn from_str(alloc: alloc::Global, text: &str) -> Result<Self, alloc::AllocError>;
 }
@@ -210,7 +211,7 @@ pub mod vec {
         reserve(items, more).map_err(|_| AllocError)
     }
 
-    /// Rust's vector, whose calls that ask for memory may be refused.
+    /// Rust's vector, with calls that return an error if memory runs out.
     #[derive(Debug, PartialEq, Eq, PartialOrd, Ord, Hash)]
     #[repr(transparent)]
     pub struct Vec<T>(pub memory::vec::Vec<T>);
@@ -399,8 +400,8 @@ impl<C> core::ops::DerefMut for Held<C> {
     }
 }
 
-/// The greatest boundary between characters that is not behind `at`, as std's method of that name
-/// has it since 1.91.
+/// The greatest boundary between characters up to `at`, as std's method of that name returns it
+/// since 1.91.
 pub fn floor_char_boundary(text: &str, at: usize) -> usize {
     if at >= text.len() {
         return text.len();

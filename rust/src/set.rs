@@ -117,8 +117,8 @@ impl<T: Bytes> GenericPatriciaSet<T> {
         Some(part.get())
     }
 
-    /// Returns the length in bytes of the longest front of the key, in whole items, with which some
-    /// element begins, too.
+    /// Returns the length in bytes of the longest prefix of the key, in whole items, that is also a
+    /// prefix of some element.
     pub fn longest_common_prefix_len<U>(&self, value: &U) -> usize
     where
         U: ?Sized + AsRef<T::Borrowed>,
@@ -180,7 +180,7 @@ impl<T: Bytes> GenericPatriciaSet<T> {
         need(self.try_count_prefix(prefix))
     }
 
-    /// Does as `count_prefix`. Memory is needed only if some element has more than 64 bytes behind
+    /// Does as `count_prefix`. Memory is needed only if some element has more than 64 bytes after
     /// the prefix.
     pub fn try_count_prefix<U>(&self, prefix: U) -> Result<usize, AllocError>
     where
@@ -269,7 +269,7 @@ impl<T: Bytes> GenericPatriciaSet<T> {
         encoded(self.try_tree_bytes())
     }
 
-    /// Does as `tree_bytes`, and returns an error if memory runs out, too.
+    /// Does as `tree_bytes`, and also returns an error if memory runs out.
     pub fn try_tree_bytes(&self) -> Result<Vec<u8>, WireError> {
         self.set.tree_bytes().map(|bytes| bytes.0)
     }
@@ -279,7 +279,7 @@ impl<T: Bytes> GenericPatriciaSet<T> {
         encoded(self.try_wide_tree_bytes())
     }
 
-    /// Does as `wide_tree_bytes`, and returns an error if memory runs out, too.
+    /// Does as `wide_tree_bytes`, and also returns an error if memory runs out.
     pub fn try_wide_tree_bytes(&self) -> Result<Vec<u8>, WireError> {
         self.set.wide_tree_bytes().map(|bytes| bytes.0)
     }
@@ -290,7 +290,7 @@ impl<T: Bytes> GenericPatriciaSet<T> {
         decoded(Self::try_from_tree_bytes(bytes, count))
     }
 
-    /// Does as `from_tree_bytes`, and returns an error if memory runs out, too.
+    /// Does as `from_tree_bytes`, and also returns an error if memory runs out.
     pub fn try_from_tree_bytes(bytes: &[u8], count: usize) -> Result<Self, DecodeError> {
         GenericPatriciaMap::try_from_tree_bytes(bytes, units(bytes, count)).map(Self::of)
     }
@@ -300,7 +300,7 @@ impl<T: Bytes> GenericPatriciaSet<T> {
         decoded(Self::try_from_wide_tree_bytes(bytes, count))
     }
 
-    /// Does as `from_wide_tree_bytes`, and returns an error if memory runs out, too.
+    /// Does as `from_wide_tree_bytes`, and also returns an error if memory runs out.
     pub fn try_from_wide_tree_bytes(bytes: &[u8], count: usize) -> Result<Self, DecodeError> {
         GenericPatriciaMap::try_from_wide_tree_bytes(bytes, units(bytes, count)).map(Self::of)
     }
@@ -314,7 +314,7 @@ impl<T: Bytes> GenericPatriciaSet<T> {
         loaded(Self::try_from_sorted_iter(elements))
     }
 
-    /// Does as `from_sorted_iter`, and returns an error if memory runs out, too.
+    /// Does as `from_sorted_iter`, and also returns an error if memory runs out.
     pub fn try_from_sorted_iter<U, I>(elements: I) -> Result<Self, LoadError>
     where
         U: AsRef<T::Borrowed>,
@@ -324,8 +324,8 @@ impl<T: Bytes> GenericPatriciaSet<T> {
         GenericPatriciaMap::try_from_sorted_iter(entries).map(Self::of)
     }
 
-    /// Puts elements behind those of the set, each of which has to come after the one before it. At
-    /// the first that does not, those before it are in the set.
+    /// Appends elements in order: each has to come after the one before it, and the first one after
+    /// those of the set. At the first that does not, those before it are in the set.
     pub fn sorted_load<U, I>(&mut self, elements: I) -> Result<(), NotInOrder>
     where
         U: AsRef<T::Borrowed>,

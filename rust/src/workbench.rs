@@ -1,5 +1,5 @@
-//! What the examples of the proved sources name, and how a test has requests for memory refused.
-//! This module is there only under `--cfg workbench`.
+//! The names that the examples of the proved sources use, and calls that make a request for memory
+//! fail. This module exists only under `--cfg workbench`.
 
 pub use crate::proved::patricia_core::keys::*;
 pub use crate::proved::patricia_core::steps::*;

@@ -54,7 +54,7 @@ impl Place {
 
 /// The places of entries in the order of their keys. Of entries with one key the last has a place.
 ///
-/// Most comparisons are of the first bytes alone, which are beside the places.
+/// Most comparisons read only the first bytes of keys, which are stored with the places.
 fn sorted_places<K: Bytes, Q, V>(list: &[Entry<Q, V>]) -> Result<Vec<Place>, AllocError>
 where
     Q: AsRef<K::Borrowed>,
@@ -91,7 +91,7 @@ fn try_collect<T>(entries: impl Iterator<Item = T>) -> Result<Vec<T>, AllocError
 }
 
 impl<K: Bytes, V> GenericPatriciaMap<K, V> {
-    /// Puts entries in key order behind those of the map.
+    /// Appends entries in key order to those of the map.
     fn load<'e, Q, I>(&mut self, entries: I) -> Result<(), LoadError>
     where
         Q: 'e + AsRef<K::Borrowed>,
@@ -173,7 +173,7 @@ impl<K: Bytes, V> GenericPatriciaMap<K, V> {
         loaded(Self::try_from_sorted_iter(entries))
     }
 
-    /// Does as `from_sorted_iter`, and returns an error if memory runs out, too.
+    /// Does as `from_sorted_iter`, and also returns an error if memory runs out.
     pub fn try_from_sorted_iter<Q, I>(entries: I) -> Result<Self, LoadError>
     where
         Q: AsRef<K::Borrowed>,
@@ -184,8 +184,8 @@ impl<K: Bytes, V> GenericPatriciaMap<K, V> {
         Ok(map)
     }
 
-    /// Puts entries behind those of the map, each of which has to come after the one before it. At
-    /// the first that does not, those before it are in the map.
+    /// Appends entries in key order: each has to come after the one before it, and the first one
+    /// after those of the map. At the first that does not, those before it are in the map.
     pub fn sorted_load<Q, I>(&mut self, entries: I) -> Result<(), NotInOrder>
     where
         Q: AsRef<K::Borrowed>,
@@ -194,7 +194,7 @@ impl<K: Bytes, V> GenericPatriciaMap<K, V> {
         loaded(self.try_sorted_load(entries))
     }
 
-    /// Does as `sorted_load`, and returns an error if memory runs out, too: then the entries before
+    /// Does as `sorted_load`, and also returns an error if memory runs out: then the entries before
     /// the one for which it ran out are in the map, or none if the list of all keys has no room.
     pub fn try_sorted_load<Q, I>(&mut self, entries: I) -> Result<(), LoadError>
     where

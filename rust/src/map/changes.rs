@@ -70,7 +70,7 @@ impl<K: Bytes, V> GenericPatriciaMap<K, V> {
         need(self.try_count_prefix(prefix))
     }
 
-    /// Does as `count_prefix`. Memory is needed only if some key has more than 64 bytes behind the
+    /// Does as `count_prefix`. Memory is needed only if some key has more than 64 bytes after the
     /// prefix.
     pub fn try_count_prefix<Q>(&self, prefix: Q) -> Result<usize, AllocError>
     where
@@ -94,7 +94,7 @@ impl<K: Bytes, V> GenericPatriciaMap<K, V> {
 
     /// Keeps the entries for which a closure returns `true`, which it asks in key order.
     ///
-    /// If the closure panics, the entries that it has not refused stay.
+    /// If the closure panics, the entries for which it has not returned `false` stay.
     pub fn retain<F>(&mut self, f: F)
     where
         F: FnMut(&K::Borrowed, &mut V) -> bool,

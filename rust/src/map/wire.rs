@@ -25,7 +25,7 @@ impl<K: Bytes, V> GenericPatriciaMap<K, V> {
         encoded(self.try_tree_bytes())
     }
 
-    /// Does as `tree_bytes`, and returns an error if memory runs out, too.
+    /// Does as `tree_bytes`, and also returns an error if memory runs out.
     pub fn try_tree_bytes(&self) -> Result<Vec<u8>, WireError> {
         self.map.tree_bytes().map(|bytes| bytes.0)
     }
@@ -36,7 +36,7 @@ impl<K: Bytes, V> GenericPatriciaMap<K, V> {
         encoded(self.try_wide_tree_bytes())
     }
 
-    /// Does as `wide_tree_bytes`, and returns an error if memory runs out, too.
+    /// Does as `wide_tree_bytes`, and also returns an error if memory runs out.
     pub fn try_wide_tree_bytes(&self) -> Result<Vec<u8>, WireError> {
         self.map.wide_tree_bytes().map(|bytes| bytes.0)
     }
@@ -47,7 +47,7 @@ impl<K: Bytes, V> GenericPatriciaMap<K, V> {
         decoded(Self::try_from_tree_bytes(bytes, values))
     }
 
-    /// Does as `from_tree_bytes`, and returns an error if memory runs out, too.
+    /// Does as `from_tree_bytes`, and also returns an error if memory runs out.
     pub fn try_from_tree_bytes(bytes: &[u8], values: Vec<V>) -> Result<Self, DecodeError> {
         let map = crate::parts::Proved::from_wire(Global, bytes, ProvedVec(values))?;
         Ok(GenericPatriciaMap { map })
@@ -59,7 +59,7 @@ impl<K: Bytes, V> GenericPatriciaMap<K, V> {
         decoded(Self::try_from_wide_tree_bytes(bytes, values))
     }
 
-    /// Does as `from_wide_tree_bytes`, and returns an error if memory runs out, too.
+    /// Does as `from_wide_tree_bytes`, and also returns an error if memory runs out.
     pub fn try_from_wide_tree_bytes(bytes: &[u8], values: Vec<V>) -> Result<Self, DecodeError> {
         let map = crate::parts::Proved::from_wide_wire(Global, bytes, ProvedVec(values))?;
         Ok(GenericPatriciaMap { map })
