@@ -6,16 +6,16 @@ use memory::string::String;
 pub mod prelude {
     pub use super::StringExt as _;
     pub use super::alloc::Clone;
+    pub(crate) use super::prove;
     pub use super::vec::Vec;
-    pub use crate::prove;
     pub use memory::string::String;
 }
 
 /// What a proof has shown, which the compiler evaluates: the sources use it only in constants.
-#[macro_export]
 macro_rules! prove {
     ($($t:tt)*) => { assert!($($t)*) };
 }
+pub(crate) use prove;
 
 pub mod alloc {
     /// The allocator, of which there is one.
