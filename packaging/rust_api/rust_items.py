@@ -88,7 +88,7 @@ class Scope:
             self.bound(part[:1], part[2:])
 
     def where(self, words):
-        """Adds what comes behind `where`."""
+        """Adds the bounds after `where`."""
         for part in parted(words):
             at = part.index(':')
             self.bound(part[:at], part[at + 1:])
@@ -97,7 +97,7 @@ class Scope:
         """A text with the bounds behind it, and with numbers for the names of parameters."""
         texts = {}
         for number, name in enumerate(self.names, 1):
-            texts[name] = ("'" if name[0] == "'" else 'P') + str(number)
+            texts[name] = ("'" if name[0] == "'" else 'Type') + str(number)
         pattern = '|'.join(r"(?<![\w'])%s(?!\w)" % re.escape(name) for name in texts)
 
         def renamed(text):
