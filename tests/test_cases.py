@@ -1,22 +1,29 @@
 """The cases of `ptree`, the calls of `test_scripts`, and both on many keys, against the independent model."""
 import os
 import shutil
+from tests.oracle import make_cases, model
 from tests.support import ROOT, Case, each, folder, made, pairs, read, run
 
-CASES = sorted(name[:-3] for name in os.listdir(os.path.join(ROOT, 'tests', 'cases')) if name.endswith('.in'))
+WRITTEN = sorted(name[:-3] for name in os.listdir(os.path.join(ROOT, 'tests', 'cases')) if name.endswith('.in'))
+RANDOM = {name: (kind, lines) for name, kind, lines in make_cases.random_scripts()}
+CASES = [*WRITTEN, *RANDOM]
 # Each is made by a script of tests/oracle of this name.
 CALLS = 'labels', 'decimals', 'near', 'order'
 
 
 def case(name):
-    """The words, the input, the output, the errors and the status of a case."""
+    """The words, the input, the output, the errors and the status of a case: one of tests/cases, or a random script
+    with the answers of the model."""
+    if name in RANDOM:
+        kind, lines = RANDOM[name]
+        return [kind.encode()], lines, model.answer(kind, lines), None, 0
     of = lambda end, otherwise: otherwise if (there := read('tests', 'cases', name + end)) is None else there
     words = of('.args', b'bytes\n').split(b'\n')[:-1]
     return words, of('.in', b''), of('.out', b''), of('.err', None), int(of('.status', b'0'))
 
 
 class Cases(Case):
-    """`ptree` writes of each case what tests/cases has of it."""
+    """`ptree` writes of each case what tests/cases has of it, or the model answers."""
 
     @each(*pairs(CASES))
     def case(self, name, build):
@@ -52,7 +59,7 @@ class Large(Case):
 class Files(Case):
     """The files that the gate compares with are those that the model makes."""
 
-    def test_cases_are_those_of_the_model(self):
+    def test_answers_to_cases_are_those_of_the_model(self):
         room = os.path.join(folder(self.addCleanup), 'cases')
         shutil.copytree(os.path.join(ROOT, 'tests', 'cases'), room)
         made('make_cases', room)

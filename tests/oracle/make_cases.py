@@ -1,12 +1,12 @@
-"""Makes the random cases of `ptree`, and what it must answer to all cases.
+"""The random scripts of `ptree`, and what it must answer to the cases that were written by hand.
 
     python3 -B -m tests.oracle.make_cases tests/cases
 
-For each kind of keys and each shape of SHAPES one random script KIND_SHAPE.in, from one seed, and
-from another a short one of all words but those of tree bytes, KIND_two_maps.in, and for each shape of
-WIRE_SHAPES from a third one with `wire` too, KIND_wires_SHAPE.in, from a fourth one with `reload`,
-KIND_reloads_SHAPE.in, and from a fifth one of all words, KIND_wide_levels_SHAPE.in; then for each
-NAME.in of the folder the answers NAME.out by model.py. A case with a NAME.status is left as it is.
+The tests make the scripts when they run, each from a seed: for each kind of keys and each shape of SHAPES one of most
+commands, KIND_SHAPE, a short one of all commands but those of tree bytes, KIND_two_maps, and for each shape of
+WIRE_SHAPES one with `wire`, KIND_wires_SHAPE, one with `wire` and `reload`, KIND_reloads_SHAPE, and one of all commands,
+KIND_wide_levels_SHAPE. The command writes for each NAME.in of the folder the answers NAME.out by model.py. A case with
+a NAME.status is left as it is.
 """
 import os
 import random
@@ -34,29 +34,23 @@ def read(path):
         return file.read()
 
 
-def write_script(folder, kind, name, data):
-    path = os.path.join(folder, '%s_%s' % (kind, name))
-    write(path + '.in', data)
-    if kind != 'bytes':
-        write(path + '.args', kind.encode() + b'\n')
-
-
-def main(folder):
+def random_scripts():
+    """The random scripts, the same ones at each call: the name, the kind of keys and the lines of each."""
     rng, rng_of_all = random.Random(SEED), random.Random(SEED_OF_ALL)
     rng_of_wires, rng_of_reloads = random.Random(SEED_OF_WIRES), random.Random(SEED_OF_RELOADS)
     rng_of_wide_levels = random.Random(SEED_OF_WIDE_LEVELS)
     for kind in 'bytes', 'text', 'units':
         for shape in SHAPES:
-            data = script(rng, kind, shape, 130 if shape == 'long' else 400)
-            write_script(folder, kind, shape, data)
-        write_script(folder, kind, 'two_maps', script_of_all(rng_of_all, kind, 'short', 60))
+            yield '%s_%s' % (kind, shape), kind, script(rng, kind, shape, 130 if shape == 'long' else 400)
+        yield kind + '_two_maps', kind, script_of_all(rng_of_all, kind, 'short', 60)
         for shape, size in WIRE_SHAPES.items():
-            data = script_of_all(rng_of_wires, kind, shape, size, WIRE_WEIGHTS)
-            write_script(folder, kind, 'wires_' + shape, data)
-            data = script_of_all(rng_of_reloads, kind, shape, size, RELOAD_WEIGHTS)
-            write_script(folder, kind, 'reloads_' + shape, data)
-            data = script_of_all(rng_of_wide_levels, kind, shape, size, WIDE_WEIGHTS)
-            write_script(folder, kind, 'wide_levels_' + shape, data)
+            for name, numbers, weights in (('wires', rng_of_wires, WIRE_WEIGHTS),
+                                           ('reloads', rng_of_reloads, RELOAD_WEIGHTS),
+                                           ('wide_levels', rng_of_wide_levels, WIDE_WEIGHTS)):
+                yield '%s_%s_%s' % (kind, name, shape), kind, script_of_all(numbers, kind, shape, size, weights)
+
+
+def main(folder):
     for name in sorted(os.listdir(folder)):
         path, end = os.path.splitext(os.path.join(folder, name))
         if end == '.in' and not os.path.exists(path + '.status'):
