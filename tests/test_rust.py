@@ -35,10 +35,6 @@ class Built(Case):
         self.assertEqual(ran.returncode, 0, ran.stdout[-6000:])
         return ran.stdout
 
-    def wants(self, *words):
-        if run(words).returncode:
-            self.skipTest(' '.join(words[:2]) + ' is not installed')
-
 
 class Tests(Built):
     """The tests of the package, as it is and in the configuration of the workbench."""
@@ -80,13 +76,14 @@ class Product(Built):
         self.cargo('doc', '--no-deps', rustdoc=WARNINGS)
 
     def test_code_has_no_warnings(self):
-        self.cargo('check', '--all-targets', rustc=WARNINGS)
-
-    def test_clippy_has_no_warnings(self):
-        """One of its lints compares each call of std with the oldest compiler that the package names."""
-        self.wants('cargo', 'clippy', '--version')
+        """By clippy if it is installed. One of its lints compares each call of std with the oldest compiler that the
+        package names."""
         features = ['--features', 'serde'] if package.has_serde() else []
-        self.cargo('clippy', '--all-targets', *features, '--', '-D', 'warnings', '-D', 'clippy::incompatible_msrv')
+        if run(['cargo', 'clippy', '--version']).returncode:
+            self.cargo('check', '--all-targets', *features, rustc=WARNINGS)
+        else:
+            lints = ['-D', 'warnings', '-D', 'clippy::incompatible_msrv']
+            self.cargo('clippy', '--all-targets', *features, '--', *lints)
 
     def test_package_has_the_sources_the_tests_and_the_notices(self):
         for name in 'LICENSE', 'PROVED':
