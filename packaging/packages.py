@@ -22,6 +22,11 @@ program that erases the contracts (packaging/eraser of the repository):
 KINDS = 'source', 'rattle', 'rust', 'python', 'debian'
 
 
+def published(manifest):
+    """The manifest of the Rust package without its end, which is for builds in the repository."""
+    return manifest.partition('\n# Only where this package is built by itself')[0]
+
+
 class Making:
     """A room with `source`, the files of a commit, in which packages are made and put into `out`."""
 
@@ -93,6 +98,11 @@ class Making:
             claimed += ERASED % ''.join('    ' + line for line in file)
         with open(os.path.join(self.source, 'rust', 'PROVED'), 'w', encoding='utf-8') as file:
             file.write(claimed)
+        path = os.path.join(self.source, 'rust', 'Cargo.toml')
+        with open(path, encoding='utf-8') as file:
+            manifest = file.read()
+        with open(path, 'w', encoding='utf-8') as file:
+            file.write(published(manifest))
         parts = [(os.path.join('rust', name), name) for name in ('Cargo.toml', 'README.md', 'PROVED', 'src', 'tests')]
         self.packed(top + '.crate', top, [*parts, ('LICENSE', 'LICENSE')])
 

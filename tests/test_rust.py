@@ -106,6 +106,13 @@ class Product(Built):
         code, wanted = documented.examples()['main.rs']
         self.assertEqual(documented.printed('main.rs', code, self.room, []), wanted)
 
+    def test_cargo_asks_no_registry_in_the_repository(self):
+        """Whatever is installed, and with nothing that an earlier run has fetched."""
+        env = {**os.environ, 'CARGO_HOME': os.path.join(self.room, 'home')}
+        ran = run(['cargo', 'metadata', '--offline', '--locked', '--format-version', '1'], env=env,
+                  cwd=os.path.join(ROOT, 'rust'))
+        self.assertEqual(ran.returncode, 0, ran.stderr[-2000:])
+
     def test_two_commands_of_the_page_build_and_test_it(self):
         """The page names them; here they are the two that the other tests run."""
         with open(os.path.join(ROOT, 'docs', 'BINDINGS.md'), encoding='utf-8') as file:

@@ -6,6 +6,9 @@ import subprocess
 import sys
 from tests.support import ROOT
 
+sys.path.insert(0, os.path.join(ROOT, 'packaging'))
+from packages import published  # noqa: E402
+
 # Where Debian's packages librust-serde-dev and librust-serde-json-dev lay the crates that cargo asks for.
 REGISTRY = '/usr/share/cargo/registry'
 SOURCE = ['--config', 'source.crates-io.replace-with="debian"', '--config', 'source.debian.directory="%s"' % REGISTRY]
@@ -17,21 +20,17 @@ def has_serde():
     return all(any(name.startswith(crate) for name in names) for crate in ('serde-1', 'serde_derive-1', 'serde_json-1'))
 
 
-def without_serde(manifest):
-    """A manifest without the dependency, which cargo cannot look up where there is no registry."""
-    lines = manifest.split('\n')
-    return '\n'.join(line for line in lines if 'serde' not in line)
-
-
 def copy(to):
-    """Copies the package without what cargo and the eraser made there."""
-    shutil.copytree(os.path.join(ROOT, 'rust'), to, ignore=shutil.ignore_patterns('target', 'proved', 'Cargo.lock'))
-    if not has_serde():
+    """Copies the package without what cargo and the eraser made there. Where Debian's crates are installed, what cargo
+    finds in place of serde goes."""
+    shutil.copytree(os.path.join(ROOT, 'rust'), to, ignore=shutil.ignore_patterns('target', 'proved', 'proved.new'))
+    if has_serde():
+        os.remove(os.path.join(to, 'Cargo.lock'))
         path = os.path.join(to, 'Cargo.toml')
         with open(path, encoding='utf-8') as file:
-            manifest = without_serde(file.read())
+            manifest = file.read()
         with open(path, 'w', encoding='utf-8') as file:
-            file.write(manifest)
+            file.write(published(manifest))
 
 
 def erase(package):
