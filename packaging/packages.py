@@ -14,8 +14,8 @@ PARTS = 'src', 'specs', 'proofs'
 FLAGS = '-ffile-prefix-map=%s=. -g0'
 # What PROVED of the crate says besides.
 ERASED = '''
-The crate has the proved sources without their contracts, in src/proved. The checksums of these sources, and of the
-program that erases the contracts (packaging/eraser of the repository):
+The crate has the proved sources without their contracts, in src/proved, with the exceptions that the README of the
+eraser lists (packaging/eraser of the repository). The checksums of these sources, and of the eraser:
 
 %s'''
 # In this order. The packages for Debian have the wheel inside.
