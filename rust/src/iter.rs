@@ -40,6 +40,21 @@ impl<K: ?Sized, V> fmt::Debug for CommonPrefixesIter<'_, '_, K, V> {
     }
 }
 
+/// Takes a step of a walk, after which one item less is left, and none after an error.
+#[inline(always)]
+fn counted<T>(
+    left: &mut usize,
+    step: Option<Result<T, AllocError>>,
+) -> Result<Option<T>, AllocError> {
+    let item = step.transpose();
+    match item {
+        Ok(Some(_)) => *left -= 1,
+        Ok(None) => {}
+        Err(_) => *left = 0,
+    }
+    item
+}
+
 /// An iterator over the entries of a map, in key order. It makes each key.
 pub struct Iter<'a, K, V: 'a> {
     walk: Walk<'a, Owned<K>, V>,
@@ -57,17 +72,8 @@ impl<'a, K: Bytes, V: 'a> Iter<'a, K, V> {
     /// Returns the next entry, or an error if memory runs out.
     #[inline]
     pub fn try_next(&mut self) -> Result<Option<(K, &'a V)>, AllocError> {
-        match self.walk.next() {
-            Some(Ok((key, value))) => {
-                self.left -= 1;
-                Ok(Some((key.0, value)))
-            }
-            Some(Err(error)) => {
-                self.left = 0;
-                Err(error)
-            }
-            None => Ok(None),
-        }
+        let entry = counted(&mut self.left, self.walk.next())?;
+        Ok(entry.map(|(key, value)| (key.0, value)))
     }
 }
 
@@ -110,11 +116,8 @@ impl<'a, K: Bytes, V: 'a> IterPrefix<'a, K, V> {
         if mem::take(&mut self.is_refused) {
             return Err(AllocError);
         }
-        match self.walk.next() {
-            Some(Ok((key, value))) => Ok(Some((key.0, value))),
-            Some(Err(error)) => Err(error),
-            None => Ok(None),
-        }
+        let entry = self.walk.next().transpose()?;
+        Ok(entry.map(|(key, value)| (key.0, value)))
     }
 }
 
@@ -195,17 +198,7 @@ impl<'a, V: 'a> Values<'a, V> {
     /// Returns the next value, or an error if memory runs out for the siblings that wait.
     #[inline]
     pub fn try_next(&mut self) -> Result<Option<&'a V>, AllocError> {
-        match self.walk.next_value() {
-            Some(Ok(value)) => {
-                self.left -= 1;
-                Ok(Some(value))
-            }
-            Some(Err(error)) => {
-                self.left = 0;
-                Err(error)
-            }
-            None => Ok(None),
-        }
+        counted(&mut self.left, self.walk.next_value())
     }
 }
 
@@ -243,17 +236,8 @@ impl<K: Bytes, V> IntoIter<K, V> {
     /// left are dropped.
     #[inline]
     pub fn try_next(&mut self) -> Result<Option<(K, V)>, AllocError> {
-        match self.walk.next() {
-            Some(Ok((key, value))) => {
-                self.left -= 1;
-                Ok(Some((key.0, value)))
-            }
-            Some(Err(error)) => {
-                self.left = 0;
-                Err(error)
-            }
-            None => Ok(None),
-        }
+        let entry = counted(&mut self.left, self.walk.next())?;
+        Ok(entry.map(|(key, value)| (key.0, value)))
     }
 }
 
