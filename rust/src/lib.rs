@@ -50,18 +50,18 @@
 //!
 //! The library is written in Rattle: Rust with contracts, which a checker proves. The module
 //! `proved` is the text of its sources without the contracts. A program removes them, and a second
-//! program checks that nothing else is removed or changed but what a list of exceptions names: most
-//! of these give the map back, or drop values last, so that a panic of the caller loses no entry. For
-//! the sources it is proved that, with a kind of keys that keeps its law, each call has the answer of
-//! a finite map, that no call panics, and that each call ends.
+//! program checks that nothing else is removed or changed but what a list of exceptions names:
+//! most of these give the map back, or drop values last, so that a panic of the caller loses no
+//! entry. For the sources it is proved that, with a kind of keys that keeps its law, each call has
+//! the answer of a finite map, that no call panics, and that each call ends.
 //!
 //! Not proved are the exceptions, these two programs, the module `rt`, which implements Rattle's
-//! standard library with Rust's, and the other modules of this crate, which define its public types.
-//! Rust's compiler replaces Rattle's. The crate has no unsafe code, so a fault in any of these is a
-//! wrong answer or a panic.
+//! standard library with Rust's, and the other modules of this crate, which define its public
+//! types. Rust's compiler replaces Rattle's. The crate has no unsafe code, so a fault in any of
+//! these is a wrong answer, a panic or a call that does not end, and never undefined behaviour.
 //!
-//! On targets with 32-bit pointers the crate is tested and not proved: a `usize` has 64 bits in the
-//! proofs.
+//! On targets with 32-bit pointers the crate is tested and not proved: a `usize` has 64 bits in
+//! the proofs.
 //!
 //! # Features
 //!

@@ -261,8 +261,8 @@ impl<K: Bytes, V> GenericPatriciaMap<K, V> {
 
     /// Returns the entries, in key order, with values that can be changed.
     ///
-    /// It allocates in proportion to the map, and so does `values_mut`, which makes no key. `retain`
-    /// with a closure that returns `true` changes values with less memory.
+    /// It allocates in proportion to the map, and so does `values_mut`, which makes no key.
+    /// `retain` with a closure that returns `true` changes values with less memory.
     pub fn iter_mut(&mut self) -> IterMut<'_, K, V> {
         IterMut::new(&mut self.map)
     }
