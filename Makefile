@@ -1,4 +1,5 @@
-# make install [PREFIX=/usr/local]    installs the library for C, the programs, and their manual pages and completions
+# make install [PREFIX=/usr/local]    installs the library for C, the programs, their completions, and where pandoc is
+#                                     installed their manual pages
 # make uninstall [PREFIX=/usr/local]
 # make dist                           writes packages into dist/ (docs/INSTALL.md says which)
 # make reproduce                      does so twice, in different folders, and compares
@@ -28,9 +29,13 @@ install: $(BUILT)/libpatricia_c.a $(PROGRAMS:%=$(BUILT)/%)
 	for program in $(PROGRAMS); do \
 	    install -m 755 $(BUILT)/$$program $(DESTDIR)$(BINDIR) && \
 	    install -m 644 packaging/completions/$$program.bash $(DESTDIR)$(BASHDIR)/$$program && \
-	    install -m 644 packaging/completions/_$$program $(DESTDIR)$(ZSHDIR) && \
-	    $(PYTHON) -B packaging/manual.py $$program $(DESTDIR)$(MANDIR)/man1 || exit 1; \
+	    install -m 644 packaging/completions/_$$program $(DESTDIR)$(ZSHDIR) || exit 1; \
 	done
+	if command -v pandoc > /dev/null; then \
+	    for program in $(PROGRAMS); do \
+	        packaging/manual.sh $$program > $(DESTDIR)$(MANDIR)/man1/$$program.1 || exit 1; \
+	    done; \
+	fi
 
 uninstall:
 	$(LIBRARY) uninstall

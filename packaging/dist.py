@@ -21,7 +21,6 @@ import tempfile
 sys.dont_write_bytecode = True
 sys.path.insert(0, os.path.dirname(os.path.abspath(__file__)))
 import gate  # noqa: E402
-import header  # noqa: E402
 import packages  # noqa: E402
 import tree  # noqa: E402
 
@@ -71,8 +70,7 @@ def main(words):
     with tempfile.TemporaryDirectory(prefix='patricia-') as room:
         source = os.path.join(room, 'source')
         tree.export(source)
-        with open(os.path.join(source, 'bindings', 'c', 'patricia.h'), encoding='utf-8') as file:
-            version = header.version(file.read())
+        version = tree.version(source)
         with open(os.path.join(source, 'PROVED'), 'w', encoding='utf-8') as file:
             file.write(told(claimed, version))
         made = packages.Making(room, source, os.path.abspath(asked.trial or asked.gate), version, tree.epoch())

@@ -1,4 +1,6 @@
 """Makes each package from the files of a commit and from what was built of it."""
+import datetime
+import email.utils
 import os
 import shutil
 import subprocess
@@ -18,6 +20,13 @@ The crate has the proved sources without their contracts, in src/proved, with th
 eraser lists (packaging/eraser of the repository). The checksums of these sources, and of the eraser:
 
 %s'''
+# Debian's list of changes, which wants a maintainer and a time.
+CHANGELOG = '''patricia (%s) unstable; urgency=medium
+
+  * CHANGELOG.md has the changes of this version.
+
+ -- Wirohapu maintainers <maintainers@users.noreply.wirohapu.example>  %s
+'''
 # In this order. The packages for Debian have the wheel inside.
 KINDS = 'source', 'rattle', 'rust', 'python', 'debian'
 
@@ -125,9 +134,9 @@ class Making:
     def of_debian(self):
         """The packages of debian/control."""
         wheel = next(name for name in os.listdir(self.out) if name.endswith('.whl'))
-        changelog = self.run(sys.executable, '-B', 'packaging/debian.py', 'changelog')
         with open(os.path.join(self.source, 'debian', 'changelog'), 'w', encoding='utf-8') as file:
-            file.write(changelog)
+            file.write(CHANGELOG % (self.version, email.utils.format_datetime(
+                datetime.datetime.fromtimestamp(self.epoch, datetime.timezone.utc))))
         self.run('dpkg-buildpackage', '-b', '-us', '-uc', '-tc', BUILT=self.built,
                  WHEEL=os.path.join(self.out, wheel), DEB_BUILD_OPTIONS='nocheck noautodbgsym')
         for name in os.listdir(self.room):

@@ -1,8 +1,9 @@
-"""What git knows of the checkout: its commit, and what differs from it."""
+"""What git knows of the checkout: its commit, and what differs from it; and the version, which patricia.h has."""
+import io
 import os
+import re
 import subprocess
 import tarfile
-import io
 
 ROOT = os.path.dirname(os.path.dirname(os.path.abspath(__file__)))
 
@@ -35,3 +36,9 @@ def export(folder, root=ROOT):
     """Writes the files of the commit into a folder."""
     with tarfile.open(fileobj=io.BytesIO(git('archive', 'HEAD', root=root))) as files:
         files.extractall(folder)
+
+
+def version(root=ROOT):
+    """The version of all that is packed."""
+    with open(os.path.join(root, 'bindings', 'c', 'patricia.h'), encoding='utf-8') as file:
+        return re.search(r'^#define PATRICIA_VERSION "(.*)"$', file.read(), re.M)[1]

@@ -25,7 +25,8 @@ from tests.test_bindings import archive
 
 PACKAGING = os.path.join(ROOT, 'packaging')
 sys.path.insert(0, PACKAGING)
-import debian, gate, header, manual, markdown  # noqa: E401, E402
+import gate  # noqa: E402
+import tree  # noqa: E402
 
 NOT_SOURCES = 'out', 'dist', 'target', '.git', '__pycache__'
 AUTHOR = ['-c', 'user.name=a', '-c', 'user.email=a@example.org', '-c', 'commit.gpgsign=false']
@@ -39,7 +40,7 @@ def read(*path):
 
 
 def version():
-    return header.version(read('bindings', 'c', 'patricia.h'))
+    return tree.version()
 
 
 def git(place, *words):
@@ -95,65 +96,71 @@ class Version(Case):
             self.assertLessEqual(len([line for line in part.split('\n')[1:] if line]), 10, part[:20])
 
 
+def declared():
+    """The functions of patricia.h, and those of them whose body stands there."""
+    text = read('bindings', 'c', 'patricia.h')
+    return ({*re.findall(r'^(?!typedef|#| |/).*?\b(patricia_\w+)\((?!\))', text, re.M)},
+            {*re.findall(r'^static inline .*?\b(patricia_\w+)\(', text, re.M)})
+
+
 class Manual(Case):
     """The manual pages, each from its one source."""
 
     @classmethod
     def setUpClass(cls):
+        if not shutil.which('pandoc'):
+            raise unittest.SkipTest('pandoc is not installed')
         cls.room = folder(cls.addClassCleanup)
-        for source in ('c', *manual.PROGRAMS):
-            subprocess.run([sys.executable, '-B', PACKAGING + '/manual.py', source, cls.room], check=True)
-        cls.texts = {}
-        for name in os.listdir(cls.room):
-            with open(os.path.join(cls.room, name), encoding='utf-8') as file:
-                cls.texts[name] = file.read()
-        cls.pages = [name for name, text in cls.texts.items() if not text.startswith('.so ')]
+        subprocess.run(['make', '-s', '-C', os.path.join(ROOT, 'bindings', 'c'), 'OUT=' + cls.room, cls.room + '/man3'],
+                       check=True)
+        for name in gate.PROGRAMS:
+            with open(os.path.join(cls.room, 'man3', name + '.1'), 'wb') as file:
+                subprocess.run([os.path.join(PACKAGING, 'manual.sh'), name], stdout=file, check=True)
+        cls.pages = [os.path.join(cls.room, 'man3', name) for name in ('patricia.3', 'prefixes.1', 'ptree.1')]
 
-    def warnings(self, *words, **more):
-        if not shutil.which(words[0]):
-            self.skipTest(words[0] + ' is not installed')
-        for name in sorted(self.pages):
-            ran = run([*words, os.path.join(self.room, name)], **more)
-            said = ran.stderr if words[0] == 'man' else ran.stdout + ran.stderr
-            self.assertEqual((name, ran.returncode, said), (name, 0, b''))
+    def shown(self, page):
+        """A page as it is read."""
+        if not shutil.which('man'):
+            self.skipTest('man is not installed')
+        env = {**os.environ, 'LC_ALL': 'C.UTF-8', 'MANWIDTH': '200'}
+        ran = run(['man', '--warnings', '-E', 'UTF-8', '-l', '-Tutf8', page], env=env)
+        self.assertEqual((ran.returncode, ran.stderr), (0, b''))
+        return re.sub('.\b', '', re.sub(r'\x1b\[\d+m', '', ran.stdout.decode()))
 
-    def test_mandoc_warns_of_nothing(self):
-        self.warnings('mandoc', '-Tlint')
-
-    def test_man_warns_of_nothing(self):
-        env = {**os.environ, 'LC_ALL': 'C.UTF-8', 'MANWIDTH': '100'}
-        self.warnings('man', '--warnings', '-E', 'UTF-8', '-l', '-Tutf8', '-Z', env=env)
+    def test_mandoc_finds_no_error(self):
+        if not shutil.which('mandoc'):
+            self.skipTest('mandoc is not installed')
+        for page in self.pages:
+            ran = run(['mandoc', '-Tlint', '-Werror', page])
+            self.assertEqual((ran.returncode, ran.stdout + ran.stderr), (0, b''))
 
     def test_each_function_has_a_page_with_its_declaration(self):
-        text = read('bindings', 'c', 'patricia.h')
-        # declared in another way than header.py looks for
-        names = {*re.findall(r'^(?!typedef|#| |/).*?\b(patricia_\w+)\((?!\))', text, re.M)}
+        shown, (names, _) = self.shown(self.pages[0]), declared()
         self.assertGreater(len(names), 40)
         for name in names:
-            page = self.texts[name + '.3']
-            target = re.fullmatch(r'\.so man3/(\w+\.3)\n', page)
-            shown = self.texts[target[1]] if target else page
-            self.assertRegex(shown, r'(?m)^\w.* \**%s\(' % name)
+            self.assertRegex(shown, r'(?m)^ +\w.* \**%s\(' % name)
+            with open(os.path.join(self.room, 'man3', name + '.3'), encoding='utf-8') as file:
+                self.assertEqual(file.read(), '.so man3/patricia.3\n')
+
+    def test_page_of_the_library_has_all_sentences(self):
+        told = ' '.join(self.shown(self.pages[0]).split())
+        comments = re.findall(r'^/\* *(.*?)\*/', read('bindings', 'c', 'patricia.h'), re.M | re.S)
+        self.assertGreater(len(comments), 40)
+        for text in comments[1:]:
+            sentence = ' '.join(text.replace('\n *', '\n').replace('`', '').split()).partition('. ')[0]
+            self.assertIn(sentence.lower(), told.lower())
 
     @each('ptree', 'prefixes')
-    def page_has_all_sentences_of(self, program):
-        shown = re.sub(r'\\f[BIR]|\n\.(PP|TP|EX|EE|in.*|IP.*)(?=\n)|\\&', '', self.texts[program + '.1'])
-        shown = ' '.join(shown.replace('\\e', '\\').replace('\\-', '-').split())
-        parts = re.split(r'\n\n+|^- ', read('docs', program.upper() + '.md'), flags=re.M)
-        told = [part for part in parts if part and not part.startswith(('#', '    ', '|', '<!--'))]
-        self.assertGreater(len(told), 6)
-        for text in told[1:]:
-            bare = re.sub(r'\[([^]]+)\]\([^)]*\)', r'\1', text.replace('`', '').replace('**', ''))
-            self.assertIn(' '.join(bare.split()), shown)
-
-    def test_synopsis_has_the_words_of_each_command(self):
-        shown = self.texts['prefixes.1'].replace('\\-', '-')
-        self.assertIn('prefixes combine union|intersection|difference LIST LIST.. -o OUT\n', shown)
-        self.assertIn('prefixes near LIST [-k N] [-n M]\n', shown)
+    def page_has_the_parts_of(self, program):
+        shown = self.shown(os.path.join(self.room, 'man3', program + '.1'))
+        parts = re.findall('^## (.*)$', read('docs', program.upper() + '.md'), re.M)
+        wanted = ['Exit status' if x == 'Statuses' else x.replace('`', '') for x in parts]
+        self.assertEqual(re.findall('^([A-Z].*[A-Z])$', shown, re.M),
+                         ['NAME', 'SYNOPSIS', 'DESCRIPTION', *map(str.upper, wanted), 'SEE ALSO'])
 
     def test_completions_have_the_commands(self):
-        block = next(one for one in markdown.blocks(read('docs', 'PREFIXES.md')) if one.kind == 'code')
-        commands = [line.split()[1] for line in block.told]
+        block = re.search('^    .*?\n\n', read('docs', 'PREFIXES.md'), re.M | re.S)[0]
+        commands = re.findall(r'^    prefixes (\w+)', block, re.M)
         script = ('source packaging/completions/prefixes.bash; '
                   'COMP_CWORD=1 COMP_WORDS=(prefixes ""); _prefixes; echo "${COMPREPLY[@]}"; '
                   'COMP_CWORD=2 COMP_WORDS=(prefixes tree --); _prefixes; echo "${COMPREPLY[@]}"')
@@ -186,7 +193,8 @@ class Library(Case):
         ran = run(['nm', '-D', '--defined-only', self.shared])
         named = re.findall(r' [TW] (\S+)@@PATRICIA_0\.1\n', ran.stdout.decode())
         self.assertEqual(len(ran.stdout.splitlines()), len(named) + 1)
-        self.assertEqual(sorted(named), debian.exported(read('bindings', 'c', 'patricia.h')))
+        names, inlined = declared()
+        self.assertEqual(sorted(named), sorted(names - inlined))
 
     def test_has_a_soname_that_is_there(self):
         ran = run(['readelf', '-d', self.shared])
