@@ -5,7 +5,6 @@ import os
 import re
 import sys
 from tests import definitions
-from tests.bench import chart
 from tests.support import ROOT, Case, run
 
 MOST_COLUMNS = 100
@@ -13,23 +12,6 @@ MOST_COLUMNS = 100
 MOST_WORDS = 25000
 MOST_WORDS_OF_A_PARAGRAPH = 120
 LINK = re.compile(r'\[[^]]*\]\(([^)#:]+)(?:#[^)]*)?\)')
-
-# What tests/bench/run.sh may print: a table that is none of a chart, and one of a chart.
-OTHER = '| 10 titles | the map |\n|---|---|\n| get | 7 |\n\nA remark.\n\n'
-RATIOS = """| 10 keys, ratio to std's ordered map | line | the map | JudySL |
-|---|---|---|---|
-| titles | get | 0.50 | 0.25 |
-| titles | scan | 2.00 | - |
-
-Another remark.
-"""
-GROWTH = """| titles | line | the map | std's ordered map | ratio |
-|---|---|---|---|---|
-| 1000 | get | 100 | 200 | 0.50 |
-| 10000 | get | 300 | 400 | 0.75 |
-| 100000 | get | 200 | 400 | 0.50 |
-"""
-
 
 def pages(*more):
     """README and the pages of docs, and more, by their paths from the top of the repository, with their texts."""
@@ -105,40 +87,11 @@ class Documents(Case):
         self.assertEqual([part for part in shown if part not in code], [])
         self.assertEqual(len(shown), 1)
 
-    def test_charts_are_drawn_from_the_tables_of_benchmarks(self):
-        with open(chart.PAGE, encoding='utf-8') as file:
-            page = file.read()
-        drawn = {}
-        for path in glob.glob(os.path.join(ROOT, 'docs', '*.svg')):
-            with open(path, encoding='utf-8') as file:
-                drawn[os.path.basename(path)] = file.read()
-        self.assertEqual(drawn, chart.charts(page), 'tests/bench/chart.py draws them')
-        self.assertEqual(sorted(drawn), sorted(re.findall(r'!\[[^]]*\]\((\w+\.svg)\)', page)))
-
-    def test_the_last_table_of_a_run_is_put_in_its_place(self):
-        page = 'Before.\n<!-- ratios -->\nold\n<!-- end ratios -->\nAfter.\n'
-        made = chart.put(page, 'ratios', OTHER + RATIOS)
-        shown = '![%s](ratios.svg)\n\n' % chart.SHOWN['ratios']
-        self.assertEqual(made, page.replace('old\n', shown + RATIOS))
-        self.assertEqual(chart.put(made, 'ratios', OTHER + RATIOS), made)
-
-    def test_bars_go_from_one_as_far_as_their_ratios_are_octaves(self):
-        svg = chart.charts('<!-- ratios -->\n%s<!-- end ratios -->\n' % RATIOS)['ratios.svg']
-        bars = [(float(x), float(width)) for x, width in
-                re.findall(r'<rect x="([\d.]+)" y="[\d.]+" width="([\d.]+)" height="10.0"', svg)]
-        half, quarter, double = bars
-        self.assertAlmostEqual(quarter[1], 2 * half[1], delta=0.2)
-        self.assertAlmostEqual(double[1], half[1], delta=0.2)
-        for left in half, quarter:
-            self.assertAlmostEqual(sum(left), double[0], delta=0.2)
-        self.assertEqual(re.findall(r'value" text-anchor="\w+">([\d.]+)<', svg), ['0.50', '0.25', '2.00'])
-
-    def test_curves_are_as_high_as_their_figures(self):
-        svg = chart.charts('<!-- growth -->\n%s<!-- end growth -->\n' % GROWTH)['growth.svg']
-        ours, theirs = [[tuple(map(float, point.split(','))) for point in points.split()]
-                        for points in re.findall(r'<polyline points="([^"]*)"', svg)]
-        ground = ours[0][1] + (ours[0][1] - theirs[0][1])
-        heights = [[round((ground - y) / (ground - ours[0][1]), 2) for _, y in curve] for curve in (ours, theirs)]
-        self.assertEqual(heights, [[1, 3, 2], [2, 4, 4]])
-        first, second, third = [x for x, _ in ours]
-        self.assertAlmostEqual(second - first, third - second, delta=0.2)
+    def test_charts_have_the_ratios_of_the_tables_of_benchmarks(self):
+        page = pages()['docs/BENCHMARKS.md']
+        drawn = sorted(os.path.basename(path) for path in glob.glob(os.path.join(ROOT, 'docs', '*.svg')))
+        self.assertEqual(drawn, sorted(re.findall(r'!\[[^]]*\]\((\w+\.svg)\)', page)))
+        table = re.search('<!-- ratios -->\n(.*?)<!-- end ratios -->', page, re.S)[1]
+        with open(os.path.join(ROOT, 'docs', 'ratios.svg'), encoding='utf-8') as file:
+            shown = re.findall(r'>\s*(\d+\.\d\d)\s*<', file.read())
+        self.assertEqual(sorted(shown), sorted(re.findall(r'\d+\.\d\d', table)), 'tests/bench/charts.sh draws them')
