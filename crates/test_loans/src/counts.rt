@@ -10,7 +10,11 @@ use std::alloc::{AllocError, Global};
 use std::sync::ledger::Ledger;
 
 /// The map with this key inserted.
-pub fn with(mut map: PatriciaMap<u32>, key: &[u8], value: u32) -> Result<PatriciaMap<u32>, AllocError>
+pub fn with(
+    mut map: PatriciaMap<u32>,
+    key: &[u8],
+    value: u32,
+) -> Result<PatriciaMap<u32>, AllocError>
     ensures { IfOk result (λ m. m ≡ finite.insert map key.now value) }
 {
     match map.insert(key, value) {
