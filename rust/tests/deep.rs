@@ -103,19 +103,43 @@ fn look_ups_and_walks_take_no_more_of_the_stack() {
 fn changes_take_no_more_of_the_stack() {
     on_small_stack(|| {
         let mut map = map();
-        let mut part = map.split_by_prefix(key(1_000));
-        assert_eq!((part.len(), map.len()), (64_536, 999));
+        let mut part = map.split_by_prefix(key(65_000));
+        assert_eq!((part.len(), map.len()), (536, 64_999));
         assert!(part.pop_last().is_some_and(|entry| entry.1 == 65_535));
-        assert_eq!(part.remove(key(40_000)), Some(40_000));
+        assert_eq!(part.remove(key(65_200)), Some(65_200));
         map.merge_with(part, |_, _| unreachable!());
         assert_eq!(map.len(), 65_533);
         map.retain(|key, _| key.len() % 2 == 0);
         assert_eq!(map.len(), 32_766);
-        assert_eq!(map.remove_prefix(key(60_000)), 2_768);
+        assert_eq!(map.remove_prefix(key(60_000)), 2_767);
         let set = PatriciaSet::from_tree_bytes(&chain(15, 3), LEVELS.into()).unwrap();
         let one = PatriciaSet::from([key(7)]);
         assert!(one.is_subset(&set) && set.intersection(&one) == one);
         assert_eq!(set.difference(&one).len(), 65_534);
+    });
+}
+
+/// A node at each level, with another one beside it: as many wait for their turn as there are levels.
+#[test]
+fn siblings_wait_at_each_level() {
+    on_small_stack(|| {
+        const DEPTH: u32 = 120_000;
+        let record = |flags, level: u32, label| {
+            let [a, b, c, d] = level.to_be_bytes();
+            [flags, 1, a, b, c, d, label]
+        };
+        let down =
+            (1..=DEPTH).map(|level| record(if level < DEPTH { 63 } else { 51 }, level, b'a'));
+        let up = (1..=DEPTH).rev().map(|level| record(3, level, b'b'));
+        let mut tree = vec![12, 0, 0, 0, 0, 0];
+        tree.extend(down.chain(up).flatten());
+        let values = (0..2 * DEPTH).collect();
+        let mut map = PatriciaMap::from_wide_tree_bytes(&tree, values).unwrap();
+        assert!(map.values().copied().eq(0..2 * DEPTH));
+        assert!(map.values_mut().map(|value| *value).eq(0..2 * DEPTH));
+        let mut cursor = map.cursor();
+        assert!((0..2 * DEPTH).all(|number| cursor.advance() && cursor.value() == Some(&number)));
+        assert_eq!(map.wide_tree_bytes().unwrap(), tree);
     });
 }
 
