@@ -15,7 +15,8 @@ mod common;
 mod trees;
 
 use common::Random;
-use patricia::{Bytes, DecodeError, GenericPatriciaMap, GenericPatriciaSet, PatriciaSet};
+use patricia::{Bytes, DecodeError, GenericPatriciaMap, GenericPatriciaSet};
+use patricia::{PatriciaMap, PatriciaSet};
 use std::alloc::{GlobalAlloc, Layout, System};
 use std::cell::Cell;
 use trees::Levels;
@@ -159,16 +160,26 @@ const WIDE_CLAIMS: [(&[u8], DecodeError); 4] = [
     ),
 ];
 
+/// Values without bytes, a million of them.
+fn nothings() -> Vec<()> {
+    vec![(); 1_000_000]
+}
+
 #[test]
 fn counts_that_claim_much_ask_for_little() {
+    type Map = PatriciaMap<()>;
     for (tree, fault) in CLAIMS {
-        let (read, asked) = counted(|| PatriciaSet::try_from_tree_bytes(tree, 1_000_000));
-        assert_eq!(read.err(), Some(fault));
+        let (map, asked) = counted(|| Map::try_from_tree_bytes(tree, nothings()));
         check(asked, tree.len());
+        let (set, asked) = counted(|| PatriciaSet::try_from_tree_bytes(tree, 1_000_000));
+        check(asked, tree.len());
+        assert_eq!((map.err(), set.err()), (Some(fault), Some(fault)));
     }
     for (tree, fault) in WIDE_CLAIMS {
-        let (read, asked) = counted(|| PatriciaSet::try_from_wide_tree_bytes(tree, 1_000_000));
-        assert_eq!(read.err(), Some(fault));
+        let (map, asked) = counted(|| Map::try_from_wide_tree_bytes(tree, nothings()));
         check(asked, tree.len());
+        let (set, asked) = counted(|| PatriciaSet::try_from_wide_tree_bytes(tree, 1_000_000));
+        check(asked, tree.len());
+        assert_eq!((map.err(), set.err()), (Some(fault), Some(fault)));
     }
 }

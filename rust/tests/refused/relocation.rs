@@ -26,5 +26,6 @@ fn an_insert_is_done_without_a_relocation() {
         let is_there = |number: u16| map.get(number.to_be_bytes()) == Some(&number);
         assert!(result.is_err() || (0..COUNT).all(is_there));
     });
-    assert!(turns.done_without > 0);
+    // the others are for labels that are joined
+    assert!(turns.done_without + 2 >= turns.requests && turns.done_without > 2);
 }
