@@ -1,4 +1,4 @@
-// Look-ups of many keys side by side, whose answers go where the caller says.
+// Look-ups of many keys side by side. Those whose answers go where the caller says do not allocate.
 use super::helpers::{map_of, set_of};
 use crate::tests::asserts::holds;
 use patricia_tree::{BorrowedBytes, GenericPatriciaMap, GenericPatriciaSet};
@@ -30,6 +30,36 @@ fn check_all<Q: BorrowedBytes>(
     let map = map_of(alloc, stored)?;
     let set = set_of(alloc, stored)?;
     call_each(rt, &map, &set, keys);
+    Ok(())
+}
+
+// How many answers a call gives, or 0 where it fails.
+fn len<T: Drop>(answers: Result<Vec<T>, AllocError>) -> usize {
+    match answers {
+        Ok(answers) => answers.len(),
+        Err(_) => 0,
+    }
+}
+
+// Whether each key is answered by the calls that make a list.
+fn are_answered<Q: BorrowedBytes>(
+    map: &GenericPatriciaMap<Q::Owned, u64>,
+    set: &GenericPatriciaSet<Q::Owned>,
+    keys: &[Q],
+) -> bool {
+    let count = keys.len();
+    len(map.get_many(keys)) == count
+        && len(map.contains_many(keys)) == count
+        && len(map.longest_many(keys)) == count
+        && len(set.contains_many(keys)) == count
+}
+
+// An allocation failure that did not happen meets the contracts.
+#[test]
+fn thousands_are_answered(rt: HostRuntime) -> Result<(), AllocError> {
+    let map = map_of(rt.alloc(), &BYTES)?;
+    let set = set_of(rt.alloc(), &BYTES)?;
+    holds!(rt; are_answered(&map, &set, &[b"bar".as_slice(); 5_000]));
     Ok(())
 }
 
