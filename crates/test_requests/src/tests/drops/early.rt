@@ -1,14 +1,11 @@
 //! Walks and cursors that are dropped after one or two items.
 
-use super::values::{
-    Counted, KEYS, TREE, are_dropped, cells, chain, has_all, keys_of_chain, map_of,
-};
+use super::values::{Counted, KEYS, TREE, are_dropped, cells, chain, has_all, map_of};
 use crate::tests::asserts::{done, holds};
 use patricia_tree::{BorrowedBytes, Bytes, GenericPatriciaMap};
 use std::alloc::{AllocError, Global};
 use std::cell::Cell;
 use std::process::Abort;
-use std::test::Fail;
 
 // What a walk gives.
 type Item<K, V> = Option<Result<(K, V), AllocError>>;
@@ -147,22 +144,4 @@ fn one_of_four(rt: HostRuntime) {
     let cells = done(&rt, cells(rt.alloc(), 4));
     let map = done(&rt, map_of::<Vec<u8>>(rt.alloc(), &TREE, &cells));
     check_one(&rt, map, &cells, &KEYS, b"ba");
-}
-
-// Asserts the same of a map with each key that begins a long one.
-fn check_chain(rt: &impl Abort, alloc: Global, last: &[u8], tree: &[u8]) -> Result<(), Fail> {
-    let keys = keys_of_chain(alloc, last)?;
-    let prefix = last.get(..3).unwrap_or(last);
-    let cells = cells(alloc, keys.len())?;
-    let map = map_of::<Vec<u8>>(alloc, tree, &cells)?;
-    check_one(rt, map, &cells, &keys, prefix);
-    Ok(())
-}
-
-// A key of each length up to 1,000.
-#[test]
-fn one_of_a_chain(rt: HostRuntime) -> Result<(), Fail> {
-    let last = b"a".repeat(rt.alloc(), 1_000)?;
-    let tree = chain(rt.alloc(), 1_000, 3)?;
-    check_chain(&rt, rt.alloc(), &last, &tree)
 }

@@ -97,15 +97,3 @@ pub(crate) fn chain(alloc: Global, len: u16, last: u8) -> Result<Vec<u8>, AllocE
     push_record(&mut tree, last, len)?;
     Ok(tree)
 }
-
-/// The keys of a chain, which are the prefixes of its last key.
-pub(crate) fn keys_of_chain<'a>(
-    alloc: Global,
-    last: &'a [u8],
-) -> Result<Vec<&'a [u8]>, AllocError> {
-    let mut keys = Vec::new(alloc);
-    for len in 0..last.len() {
-        keys.push(&last[..len + 1])?;
-    }
-    Ok(keys)
-}
