@@ -19,22 +19,7 @@ import textwrap
 ROOT = os.path.dirname(os.path.dirname(os.path.abspath(__file__)))
 CRATES = os.path.join(ROOT, 'crates')
 PAGES = 'README.md', 'docs/CALLS.md'
-EXAMPLES = [
-    'test_map/src/tests/map_examples.rt',
-    'test_map/src/tests/cursor_examples.rt',
-    'test_map/src/tests/range_examples.rt',
-    'test_map/src/tests/whole_map_examples.rt',
-    'test_map/src/tests/read_cursor_examples.rt',
-    'test_map/src/tests/key_examples.rt',
-    'test_map/src/tests/router_examples.rt',
-    'test_units/src/tests/unit_examples.rt',
-    'test_wire/src/tests/json/examples.rt',
-    'test_walks/src/tests/set_examples.rt',
-    'test_walks/src/tests/set_range_examples.rt',
-    'test_walks/src/tests/whole_set_examples.rt',
-    'example_map/src/main.rt',
-    'test_prefixes/src/tests/examples.rt',
-]
+EXAMPLES = 'test_examples/src/tests', 'example_map/src/main.rt'
 KEYS, WALKS, TREE, PREFIXES = 'patricia_keys/src/', 'patricia_walks/src/', 'patricia_tree/src/', 'prefixes_core/src/'
 CALLS = {
     'map': [TREE + 'map.rt', TREE + 'map'],
@@ -177,8 +162,8 @@ def of_library(codes):
 
 def main():
     writes = sys.argv[1:] == ['--write']
-    codes = {'%s %s' % (module, name): code for path in EXAMPLES for module, names, code in REGION.findall(read(path))
-             for name in names.split()}
+    codes = {'%s %s' % (module, name): code for x in EXAMPLES for path in files(x)
+             for module, names, code in REGION.findall(read(path)) for name in names.split()}
     sections = {name: comment(code) for name, code in codes.items()}
     calls, wrong = 0, of_library(codes) + [x for page in PAGES for x in of_page(page, codes, writes)]
     for module, paths in CALLS.items():

@@ -50,10 +50,14 @@ class Tests(Built):
         package.copy(made)
         package.erase(made)
         package.show_examples(made)
-        said = self.cargo('test', '--test', 'refused', where=made, workbench=True)
-        self.assertRegex(said, r'test result: ok\. [1-9]\d* passed')
+        said = self.cargo('test', '--test', 'refused', '--test', 'nodes', where=made, workbench=True)
+        self.assertEqual(len(re.findall(r'test result: ok\. [1-9]\d* passed', said)), 2)
         said = self.cargo('test', '--doc', where=made, workbench=True)
         self.assertGreater(len(re.findall(r'^test src/proved/.* ok$', said, re.M)), 150)
+
+    def test_a_million_damaged_encodings_ask_for_little(self):
+        said = self.cargo('test', '--release', '--test', 'hostile')
+        self.assertRegex(said, r'test result: ok\. [1-9]\d* passed')
 
     def test_with_serde(self):
         if not package.has_serde():

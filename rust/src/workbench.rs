@@ -1,8 +1,11 @@
 //! The names that the examples of the proved sources use, and calls that make a request for memory
 //! fail. This module exists only under `--cfg workbench`.
 
+pub use crate::proved::patricia_codec::counts::count_children;
+pub use crate::proved::patricia_codec::{Narrow, Wide};
 pub use crate::proved::patricia_core::keys::*;
 pub use crate::proved::patricia_core::steps::*;
+pub use crate::proved::patricia_core::tree::Tree;
 pub use crate::proved::patricia_tree::map::*;
 pub use crate::proved::patricia_tree::router::*;
 pub use crate::proved::patricia_tree::set::{

@@ -4,8 +4,12 @@
 
 #[path = "refused/bulk.rs"]
 mod bulk;
+#[path = "refused/cursors.rs"]
+mod cursors;
 #[path = "refused/maps.rs"]
 mod maps;
+#[path = "refused/relocation.rs"]
+mod relocation;
 #[path = "refused/sets.rs"]
 mod sets;
 #[path = "refused/silent.rs"]

@@ -13,7 +13,7 @@ from tests.oracle.model import answer
 from tests.oracle.refuse_commands import is_allowed
 from tests.support import MOST_SECONDS
 
-PARTS = 'inputs', 'full_disk', 'no_reader', 'cut_output', 'long_lines', 'little_memory'
+PARTS = 'inputs', 'large_input', 'full_disk', 'no_reader', 'cut_output', 'long_lines', 'little_memory'
 MIB = 2 ** 20
 
 READ_FAILED = (1, b'ptree: read failed\n')
@@ -81,6 +81,13 @@ def check_inputs(runs):
     check(runs.run(stdin=reader), (READ_FAILED, b''), 'an input that would block')
     os.close(reader)
     os.close(writer)
+
+
+def check_large_input(runs):
+    """Of an input and an answer of near half a million bytes each, and of more than 65,535 commands, nothing is cut."""
+    inserts = b''.join(b'insert\t%d\t7\n' % n for n in range(10000, 30100))
+    data = inserts + b'get\t\n' * 45500 + b'insert\t%s\t8\nlist\n' % (b'k' * 2000)
+    check(runs.run(input=data), (ANSWERED, answer('bytes', data)), 'a large input')
 
 
 def check_full_disk(runs):

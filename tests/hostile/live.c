@@ -3,29 +3,19 @@
    LIVE_LOG names the file that gets the lines below.
    LIVE_MARK=N: a line 'live=..' for each request of N bytes, with what is live before it.
    LIVE_LOSE=N: pretends that each Nth free never was, so that a script can show that it sees a leak.
-   LIVE_EACH=N: a request of 2^62 bytes and some more begins a call that is given as many bytes as those more, and one
-   of 2^62 + 2^61 ends it. Both are refused. What a call asks for is the most that is live in it above what was live
-   when it began, where a block that grows counts twice until it has grown, and a request that is refused counts too.
-   At the end a line says how many calls there were, by how much the worst asked for more than N times the bytes
-   given, the most that one asked for, and the largest multiple.
-   At the end the last line has what is live that was not at the start. */
+   At the end a line 'left=..' has what is live that was not at the start. */
 #include <errno.h>
 #include <fcntl.h>
-#include <limits.h>
 #include <stdio.h>
 #include <stdlib.h>
 #include <unistd.h>
 #define HEAD 16
-#define BEGINS ((size_t)1 << 62)
-#define ENDS (BEGINS + ((size_t)1 << 61))
 extern void *__libc_malloc(size_t);
 extern void *__libc_realloc(void *, size_t);
 extern void *__libc_calloc(size_t, size_t);
 extern void __libc_free(void *);
-static size_t live, start_live, mark, lose, each, given, base, peak, most;
-static unsigned long frees, calls;
-static long over = LONG_MIN;
-static double multiple;
+static size_t live, start_live, mark, lose;
+static unsigned long frees;
 static int log_file = -1;
 static size_t number(const char *name) {
     const char *text = getenv(name);
@@ -36,34 +26,14 @@ __attribute__((constructor)) static void start(void) {
     log_file = name ? open(name, O_WRONLY | O_CREAT | O_APPEND | O_CLOEXEC, 0600) : -1;
     mark = number("LIVE_MARK");
     lose = number("LIVE_LOSE");
-    each = number("LIVE_EACH");
     start_live = live;
 }
 static void say(const char *line, int n) {
     if (log_file >= 0) { ssize_t w = write(log_file, line, n); (void)w; }
 }
-static void call_ends(void) {
-    size_t cost = peak - base;
-    long past = (long)cost - (long)(each * given);
-    calls++;
-    if (past > over) over = past;
-    if (cost > most) most = cost;
-    if (given && (double)cost / given > multiple) multiple = (double)cost / given;
-}
-static void *mark_call(size_t n) {
-    if (n == ENDS) {
-        call_ends();
-    } else {
-        given = n - BEGINS;
-        base = peak = live;
-    }
-    errno = ENOMEM;
-    return 0;
-}
 static void ask(size_t n) {
     char line[48];
     if (mark && n == mark) say(line, snprintf(line, sizeof line, "live=%zu\n", live));
-    if (live + n > peak) peak = live + n;
 }
 static void *block(size_t *head, size_t n) {
     if (!head) return 0;
@@ -72,7 +42,6 @@ static void *block(size_t *head, size_t n) {
     return (char *)head + HEAD;
 }
 void *malloc(size_t n) {
-    if (n >= BEGINS) return mark_call(n);
     ask(n);
     return block(__libc_malloc(n + HEAD), n);
 }
@@ -85,7 +54,6 @@ void free(void *p) {
 void *realloc(void *p, size_t n) {
     if (!p) return malloc(n);
     size_t *head = (size_t *)((char *)p - HEAD), old = *head;
-    if (n >= BEGINS) { errno = ENOMEM; return 0; }
     ask(n);
     void *grown = block(__libc_realloc(head, n + HEAD), n);
     if (grown) live -= old;
@@ -94,14 +62,10 @@ void *realloc(void *p, size_t n) {
 void *calloc(size_t count, size_t n) {
     size_t size;
     if (__builtin_mul_overflow(count, n, &size)) { errno = ENOMEM; return 0; }
-    if (size >= BEGINS) { errno = ENOMEM; return 0; }
     ask(size);
     return block(__libc_calloc(1, size + HEAD), size);
 }
 __attribute__((destructor)) static void end(void) {
-    char line[160];
-    if (calls)
-        say(line, snprintf(line, sizeof line, "calls=%lu over=%ld most=%zu multiple=%.2f\n",
-                           calls, over, most, multiple));
+    char line[48];
     say(line, snprintf(line, sizeof line, "left=%ld\n", (long)live - (long)start_live));
 }

@@ -13,8 +13,8 @@ LONG = b'bcd' * 20
 # What changes the map, and its list; questions about prefixes, some of which find no entry; and what
 # changes the two maps, by a prefix that ends a key, one in a label, one in a label of more than 30
 # bytes, one that leaves one of two children, one under which there is nothing, and the empty one;
-# what writes the tree; what reads again what it wrote, a label of 300 bytes among it; and both with wide
-# levels.
+# what writes the tree; what reads again what it wrote, a label of 300 bytes among it; both with wide
+# levels; and the empty key beside another one, split off whole.
 SCRIPTS = [
     b'insert\t\t1\ninsert\tab\t2\ninsert\tac\t3\ninsert\tab\t4\nget\tac\nlist\n'
     b'remove\tab\nlen\nlist\nremove\t\nclear\nlist\n',
@@ -30,6 +30,7 @@ SCRIPTS = [
     b'remove\tab\nreload\ninsert\tabc\t5\nlist\nclear\nreload\nlist\n' % (LONG * 5),
     b'wide\nreloadwide\ninsert\t\t1\ninsert\tab\t2\nwide\ninsert\t%s\t30\ninsert\tac\t4\n'
     b'reloadwide\nlist\nremove\tab\nreloadwide\nwide\nclear\nreloadwide\nlist\n' % (LONG * 5),
+    b'insert\t\t1\ninsert\ta\t2\nsplit\t\nlen\nswap\nget\t\nlist\n',
 ]
 
 ERRORS = [b'ptree: read failed\n', b'ptree: out of memory\n']

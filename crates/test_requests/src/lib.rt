@@ -1,5 +1,5 @@
-//! Tests whose memory requests `tests/test_refusals.py` counts: maps, removals and walks, the key
-//! traits, prefixes, loans, sets, and searches by edits.
+//! Tests of what no line of data can ask: calls that take no memory, streams that fail, values that
+//! count their drops, and how many nodes there are.
 #![tactic(auto)]
 
 #[cfg(test)]

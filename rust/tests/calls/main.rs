@@ -1,6 +1,7 @@
 //! Each call of maps and sets with its answer, and the names of `patricia_tree` 0.10.2.
 
 mod bulk;
+mod closures;
 mod iterators;
 mod map;
 mod names;

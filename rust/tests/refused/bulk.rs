@@ -85,6 +85,31 @@ fn a_refused_extend_keeps_the_entries_before() {
     extends::<String>();
 }
 
+/// The call of the proved code, in place of which the public one inserts entry by entry.
+#[test]
+fn a_refused_extend_of_the_proved_map_keeps_the_entries_before() {
+    use patricia::workbench::{Global, StringPatriciaMap};
+    let list = list::<String>(STARTS[3]);
+    let has = |map: &StringPatriciaMap<u32>, n: usize| {
+        let has_entry = |(key, value): &(String, u32)| map.get(key.as_str()) == Some(value);
+        map.len() == n && list[..n].iter().all(has_entry)
+    };
+    let call = |map: &mut StringPatriciaMap<u32>| {
+        map.extend(list.iter().map(|(key, value)| (key.as_str(), *value)))
+    };
+    let mut stops = BTreeSet::new();
+    in_turn(
+        || StringPatriciaMap::new(Global),
+        call,
+        |map, result| {
+            assert!(has(&map, map.len()));
+            assert!(result.is_err() || map.len() == list.len());
+            stops.insert(map.len());
+        },
+    );
+    assert!(stops.len() > 2, "{stops:?}");
+}
+
 fn loads<K: Key>() {
     for start in STARTS {
         let last = map::<K>(start).last_key_value().map(|entry| entry.0);

@@ -1,7 +1,8 @@
-//! Calls that make no request for memory.
+//! Calls that make no request for memory, and how many a search by distance makes.
 
 use crate::starts::{Key, STARTS, map, probes, set};
-use patricia::workbench::{made, refuse};
+use patricia::workbench::{Global, Router, made, refuse};
+use patricia::{PatriciaMap, PatriciaSet};
 
 /// Asserts that a call makes no request.
 fn silent<R>(name: &str, call: impl FnOnce() -> R) -> R {
@@ -108,4 +109,58 @@ fn sets<K: Key>() {
 fn look_ups_of_a_set_make_no_request() {
     sets::<Vec<u8>>();
     sets::<String>();
+}
+
+/// Two keys that are one edit from `abc`, and so many that are far from it, each with a byte more
+/// than the one before: a search that came to each would ask for more memory, the longer they are.
+fn far_keys(count: usize) -> Vec<String> {
+    let far = (0..count).map(|n| format!("far{}", "x".repeat(n)));
+    ["ab", "xbc"]
+        .map(str::to_string)
+        .into_iter()
+        .chain(far)
+        .collect()
+}
+
+/// How many requests a search makes for the keys that are one edit from `abc`, of which two are.
+fn searched(next: impl FnMut() -> bool) -> usize {
+    refuse(0);
+    let found = std::iter::repeat_with(next)
+        .take_while(|found| *found)
+        .count();
+    assert_eq!(found, 2);
+    made()
+}
+
+#[test]
+fn a_search_makes_no_request_for_keys_that_are_too_far() {
+    let requests = [10, 200].map(|count| {
+        let keys = far_keys(count);
+        let set = PatriciaSet::from_iter(&keys);
+        let map = PatriciaMap::from_iter(keys.iter().map(|key| (key, 1)));
+        let (mut of_map, mut of_set) = (map.within("abc", 1), set.within("abc", 1));
+        (searched(|| of_map.advance()), searched(|| of_set.advance()))
+    });
+    assert!(
+        requests[0] == requests[1] && requests[0].0 > 0,
+        "{requests:?}"
+    );
+}
+
+#[test]
+fn routes_make_no_request() {
+    let mut router = Router::new(Global);
+    for (prefix, target) in [("/", 1), ("/api/", 2), ("/api/users", 3)] {
+        assert!(router.add(prefix, target).is_ok());
+    }
+    silent("new", || Router::<String, u32>::new(Global).is_empty());
+    silent("route", || {
+        assert_eq!(router.route("/api/users/7"), Some(("/api/users", &3)));
+        assert_eq!(router.route("api"), None);
+    });
+    silent("add", || router.add("/", 4).ok());
+    silent("drop_prefix", || router.drop_prefix("/zzz").ok());
+    silent("drop_prefix", || {
+        assert_eq!(router.drop_prefix("").ok(), Some(3))
+    });
 }

@@ -1,6 +1,6 @@
 // The functions of the key traits, but `from_bytes`.
 use crate::tests::asserts::holds;
-use patricia_tree::{BorrowedBytes, Bytes};
+use patricia_tree::{BorrowedBytes, Bytes, UnitKey, Units};
 use std::alloc::{AllocError, Global};
 use std::cmp::Ordering;
 use std::process::Abort;
@@ -95,4 +95,42 @@ fn texts_made(rt: HostRuntime) -> Result<(), AllocError> {
 #[test]
 fn texts_called(rt: HostRuntime) -> Result<(), AllocError> {
     call_all(&rt, rt.alloc(), TEXT, &OTHER_TEXTS)
+}
+
+// The unit at a place, if there is one.
+fn unit_at(units: Units<'_>, place: usize) -> Option<u16> {
+    if place < units.len() {
+        Some(units.unit(place))
+    } else {
+        None
+    }
+}
+
+// Makes a key of units, and then the calls with all other bytes.
+fn call_units(rt: &impl Abort, alloc: Global, others: &[&[u8]]) -> Result<(), AllocError> {
+    let key = UnitKey::from_units(alloc, &[0x61, 0xd83c, 0xdf0f])?;
+    for other in others {
+        let is_whole = Units::new(other).is_some();
+        holds!(rt; is_whole == UnitKey::is_valid_bytes(other));
+        holds!(rt; unit_at(key.as_units(), 0) == Some(0x61));
+    }
+    call_all(rt, alloc, key.as_units(), others)
+}
+
+const OTHER_UNITS: [&[u8]; 5] = [
+    b"",
+    b"\0a",
+    b"\0a\xd8",
+    b"\0a\xd8\x3c\xdf\x0f",
+    b"\0b\xd8\x3d",
+];
+
+#[test]
+fn units_made(rt: HostRuntime) -> Result<(), AllocError> {
+    call_units(&rt, rt.alloc(), &[])
+}
+
+#[test]
+fn units_called(rt: HostRuntime) -> Result<(), AllocError> {
+    call_units(&rt, rt.alloc(), &OTHER_UNITS)
 }

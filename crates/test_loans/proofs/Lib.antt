@@ -1,0 +1,3 @@
+mod FirstLemmas
+pub mod KeyListLemmas
+pub mod CountLemmas

@@ -1,7 +1,0 @@
-use Rattle.std.proofs.Common.{◌≡◌, ◌++◌, map}
-use Rattle.std.specs.FinMap.{entries}
-use Rattle.patricia_tree.specs.Prefixes.{under}
-use Rattle.test_map.proofs.tests.listings.listed_under.Given as goal
-
-abbrev pub invariant-loop-item : goal.invariant-loop-item
-invariant-loop-item g l = map (λ e. (g.Q.Owned.Bytes.key e.0, e.1)) l.list.items ++ l.item-iterator ≡ under (g.Q.BorrowedBytes.key l.fn.prefix) (entries l.tree)

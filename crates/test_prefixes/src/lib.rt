@@ -1,5 +1,0 @@
-//! Tests of the questions about prefixes.
-#![tactic(auto)]
-
-#[cfg(test)]
-mod tests;

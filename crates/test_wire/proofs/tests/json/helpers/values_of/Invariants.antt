@@ -1,5 +1,0 @@
-use Rattle.patricia_json.specs.Pairs.{HaveNoFloat}
-use Rattle.test_wire.proofs.tests.json.helpers.values_of.Given as goal
-
-abbrev pub invariant-loop-item : goal.invariant-loop-item
-invariant-loop-item l = HaveNoFloat l.values.items

@@ -1,2 +1,0 @@
-mod FirstLemmas
-pub mod KeyListLemmas

@@ -1,5 +1,0 @@
-use Rattle.std.proofs.Common.{rules}
-use Rattle.uses_loans.proofs.kept.under_cursor.Goals as goal
-
-pub returns : goal.returns
-returns g c = search rules

@@ -1,5 +1,0 @@
-use Rattle.std.proofs.Common.{rules}
-use Rattle.uses_loans.proofs.loans.count_up.Goals as goal
-
-pub returns : goal.returns
-returns g c = search rules
