@@ -12,8 +12,8 @@ REFUSED += ['serve::refused_in_turn', 'json::texts_refused_in_turn',
             'router::bytes_refused_in_turn', 'router::texts_refused_in_turn']
 # Of each a test that makes values, NAME_made, and one that makes the same values and then each call on them that does
 # not allocate, NAME_called.
-FREE = ['%s::%s' % (part, kind) for part in ('keys', 'loans', 'many', 'maps', 'near', 'prefixes', 'router', 'sets', 'walks')
-        for kind in ('bytes', 'texts')] + ['keys::units', 'counts::texts', 'counts::nested']
+FREE = ['%s::%s' % (part, kind) for part in ('keys', 'loans', 'maps', 'prefixes', 'router', 'sets', 'walks')
+        for kind in ('bytes', 'texts')] + ['keys::units', 'counts::texts', 'counts::nested', 'many::texts']
 
 
 class Counted(Case):
