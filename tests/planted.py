@@ -79,7 +79,7 @@ PLANTS = [
         n''', '''        let _room = Vec::<u8>::with_capacity(crate::rt::alloc::Global, 8);
         self.tree.get_many(&keys[..n], &mut found[..n]);
         n''', 'refused', 'look_ups_of_a_map_make_no_request'),
-    Plant('a merge fails at the second shared entry', CORE + 'merging.rs', '''\
+    Plant('a merge fails at a shared entry', CORE + 'merging.rs', '''\
             merge_at(&mut tree.arena, id, value, f);
             Ok(())''', '''\
             merge_at(&mut tree.arena, id, value, f);
