@@ -79,10 +79,13 @@ PLANTS = [
         n''', '''        let _room = Vec::<u8>::with_capacity(crate::rt::alloc::Global, 8);
         self.tree.get_many(&keys[..n], &mut found[..n]);
         n''', 'refused', 'look_ups_of_a_map_make_no_request'),
-    Plant('a merge fails at the second shared entry', CORE + 'merging.rs', '''            merge_at(&mut tree.arena, id, value, f);
-            Ok(())''', '''            merge_at(&mut tree.arena, id, value, f);
+    Plant('a merge fails at a shared entry', CORE + 'merging.rs', '''\
+            merge_at(&mut tree.arena, id, value, f);
+            Ok(())''', '''\
+            merge_at(&mut tree.arena, id, value, f);
             if trail.len() > 1 { Err(AllocError) } else { Ok(()) }''', 'calls', 'merge_with_asks_at_shared_keys'),
-    Plant('a cursor passes over the entry that was refused', 'patricia_tree/entries.rs', '''        match self.go_on()? {
+    Plant('a cursor passes over the entry that was refused', 'patricia_tree/entries.rs', '''\
+        match self.go_on()? {
             Some(key) => Ok(Some((key, self.there()))),
             None => Ok(None),
         }''', '''        match self.go_on() {
@@ -93,15 +96,18 @@ PLANTS = [
                 Err(error)
             }
         }''', 'refused', 'iter_mut_goes_on'),
-    Plant('values end where 100,000 siblings wait', 'patricia_walks/value_progress.rs', '''        if sibling.get().is_some() {
-            self.stack.push(sibling)?;''', '''        if sibling.get().is_some() {
+    Plant('values end where 100,000 siblings wait', 'patricia_walks/value_progress.rs', '''\
+        if sibling.get().is_some() {
+            self.stack.push(sibling)?;''', '''\
+        if sibling.get().is_some() {
             if self.stack.len() >= 100_000 {
                 return Err(AllocError);
             }
             self.stack.push(sibling)?;''', 'deep', 'siblings_wait_at_each_level'),
     Plant('a search visits what is too far', 'patricia_walks/near.rs', 'self.cursor.skip(len)', 'drop(len)',
           'refused', 'a_search_makes_no_request'),
-    Plant('an insert fails where its relocation is refused', NODES + 'room.rs', '            self.settle(alloc);\n', '''\
+    Plant('an insert fails where its relocation is refused', NODES + 'room.rs',
+          '            self.settle(alloc);\n', '''\
             if self.nodes.len() >= FEWEST_TO_RELOCATE {
                 self.relocate(alloc)?;
             }
@@ -121,8 +127,8 @@ start::<W, V>(alloc, bytes)?;
           'count.saturating_add(1).min(16);', 'nodes', 'children_are_counted'),
     Plant('the decoder makes two places at least', CODEC + 'builder.rs', 'count.max(1)', 'count.max(2)',
           'nodes', 'a_tree_that_is_read'),
-    Plant('the decoder leaves the last place free', CODEC + 'builder.rs', 'if next.index() < len', 'if next.index() + 1 < len',
-          'nodes', 'a_tree_that_is_read'),
+    Plant('the decoder leaves the last place free', CODEC + 'builder.rs', 'if next.index() < len',
+          'if next.index() + 1 < len', 'nodes', 'a_tree_that_is_read'),
 ]
 # Files of tests whose hooks are there in the workbench alone.
 OF_WORKBENCH = 'refused', 'nodes'

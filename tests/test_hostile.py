@@ -31,5 +31,6 @@ class SmallStacks(Case):
         self.assert_ends(run([self.program('ptree', build), kind], data, stack=SMALL_STACK), output)
 
     def test_a_deep_map_is_dropped(self):
-        ran = run([self.program('test_requests', tests=True), 'tests::drops::early::two_of_a_deep_map'], stack=TEST_STACK)
+        name = 'tests::drops::early::two_of_a_deep_map'
+        ran = run([self.program('test_requests', tests=True), name], stack=TEST_STACK)
         self.assertEqual(ran.returncode, 0, ran)

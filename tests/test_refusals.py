@@ -7,13 +7,13 @@ from tests.support import ROOT, Case, each, folder, in_turn, pairs, refused
 
 # The crate of tests that lines of data cannot say. Each of these passes whichever of its memory requests is refused.
 TESTS = 'test_requests'
-REFUSED = ['collects::%s_refused_in_turn' % name for name in ('map_extends', 'map_collects', 'set_extends', 'set_collects')]
-REFUSED += ['serve::refused_in_turn', 'json::texts_refused_in_turn',
-            'router::bytes_refused_in_turn', 'router::texts_refused_in_turn']
+REFUSED = ['%s_refused_in_turn' % name for name in (
+    'collects::map_extends', 'collects::map_collects', 'collects::set_extends', 'collects::set_collects',
+    'json::texts', 'router::bytes', 'router::texts')] + ['serve::refused_in_turn']
 # Of each a test that makes values, NAME_made, and one that makes the same values and then each call on them that does
 # not allocate, NAME_called.
-FREE = ['%s::%s' % (part, kind) for part in ('keys', 'loans', 'many', 'maps', 'near', 'prefixes', 'router', 'sets', 'walks')
-        for kind in ('bytes', 'texts')] + ['keys::units', 'counts::texts', 'counts::nested']
+FREE = ['%s::%s' % (part, kind) for part in ('keys', 'loans', 'maps', 'prefixes', 'router', 'sets', 'walks')
+        for kind in ('bytes', 'texts')] + ['keys::units', 'counts::texts', 'counts::nested', 'many::texts']
 
 
 class Counted(Case):

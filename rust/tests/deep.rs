@@ -122,7 +122,7 @@ fn changes_take_no_more_of_the_stack() {
     });
 }
 
-/// A node at each level, with another one beside it: as many wait for their turn as there are levels.
+/// A node at each level, with another one beside it: as many wait as there are levels.
 #[test]
 fn siblings_wait_at_each_level() {
     on_small_stack(|| {

@@ -12,7 +12,6 @@ mod keys;
 mod loans;
 mod many;
 mod maps;
-mod near;
 mod prefixes;
 mod reload;
 mod removals;

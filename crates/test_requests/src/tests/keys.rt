@@ -1,5 +1,5 @@
 // The functions of the key traits, but `from_bytes`.
-use crate::tests::asserts::holds;
+use crate::tests::asserts::{done, holds};
 use patricia_tree::{BorrowedBytes, Bytes, UnitKey, Units};
 use std::alloc::{AllocError, Global};
 use std::cmp::Ordering;
@@ -78,23 +78,23 @@ const OTHER_TEXTS: [&[u8]; 6] = [
 ];
 
 #[test]
-fn bytes_made(rt: HostRuntime) -> Result<(), AllocError> {
-    call_all(&rt, rt.alloc(), BYTES, &[])
+fn bytes_made(rt: HostRuntime) {
+    done(&rt, call_all(&rt, rt.alloc(), BYTES, &[]));
 }
 
 #[test]
-fn bytes_called(rt: HostRuntime) -> Result<(), AllocError> {
-    call_all(&rt, rt.alloc(), BYTES, &OTHER_BYTES)
+fn bytes_called(rt: HostRuntime) {
+    done(&rt, call_all(&rt, rt.alloc(), BYTES, &OTHER_BYTES));
 }
 
 #[test]
-fn texts_made(rt: HostRuntime) -> Result<(), AllocError> {
-    call_all(&rt, rt.alloc(), TEXT, &[])
+fn texts_made(rt: HostRuntime) {
+    done(&rt, call_all(&rt, rt.alloc(), TEXT, &[]));
 }
 
 #[test]
-fn texts_called(rt: HostRuntime) -> Result<(), AllocError> {
-    call_all(&rt, rt.alloc(), TEXT, &OTHER_TEXTS)
+fn texts_called(rt: HostRuntime) {
+    done(&rt, call_all(&rt, rt.alloc(), TEXT, &OTHER_TEXTS));
 }
 
 // The unit at a place, if there is one.
@@ -126,11 +126,11 @@ const OTHER_UNITS: [&[u8]; 5] = [
 ];
 
 #[test]
-fn units_made(rt: HostRuntime) -> Result<(), AllocError> {
-    call_units(&rt, rt.alloc(), &[])
+fn units_made(rt: HostRuntime) {
+    done(&rt, call_units(&rt, rt.alloc(), &[]));
 }
 
 #[test]
-fn units_called(rt: HostRuntime) -> Result<(), AllocError> {
-    call_units(&rt, rt.alloc(), &OTHER_UNITS)
+fn units_called(rt: HostRuntime) {
+    done(&rt, call_units(&rt, rt.alloc(), &OTHER_UNITS));
 }

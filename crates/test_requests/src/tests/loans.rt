@@ -1,6 +1,6 @@
 // The calls that lend one value, and cursors that take no step.
 use super::helpers::map_of;
-use crate::tests::asserts::holds;
+use crate::tests::asserts::{done, holds};
 use patricia_tree::{BorrowedBytes, Bytes, GenericPatriciaMap};
 use std::alloc::{AllocError, Global};
 use std::process::Abort;
@@ -86,21 +86,21 @@ const TEXTS: [&str; 3] = ["", "あ", "あいうえおかきくけこさし"];
 const TEXT_KEYS: [(&str, bool); 3] = [("あ", true), ("あいうえおかきくけこさし", true), ("ん", false)];
 
 #[test]
-fn bytes_made(rt: HostRuntime) -> Result<(), AllocError> {
-    check_all(&rt, rt.alloc(), &BYTES, &[])
+fn bytes_made(rt: HostRuntime) {
+    done(&rt, check_all(&rt, rt.alloc(), &BYTES, &[]));
 }
 
 #[test]
-fn bytes_called(rt: HostRuntime) -> Result<(), AllocError> {
-    check_all(&rt, rt.alloc(), &BYTES, &BYTE_KEYS)
+fn bytes_called(rt: HostRuntime) {
+    done(&rt, check_all(&rt, rt.alloc(), &BYTES, &BYTE_KEYS));
 }
 
 #[test]
-fn texts_made(rt: HostRuntime) -> Result<(), AllocError> {
-    check_all(&rt, rt.alloc(), &TEXTS, &[])
+fn texts_made(rt: HostRuntime) {
+    done(&rt, check_all(&rt, rt.alloc(), &TEXTS, &[]));
 }
 
 #[test]
-fn texts_called(rt: HostRuntime) -> Result<(), AllocError> {
-    check_all(&rt, rt.alloc(), &TEXTS, &TEXT_KEYS)
+fn texts_called(rt: HostRuntime) {
+    done(&rt, check_all(&rt, rt.alloc(), &TEXTS, &TEXT_KEYS));
 }

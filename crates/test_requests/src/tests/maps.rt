@@ -1,7 +1,7 @@
 ghost use Rattle.std.specs.Prelude.{◌≡◌, ◌<◌};
 
 use super::helpers::map_of;
-use crate::tests::asserts::holds;
+use crate::tests::asserts::{done, holds};
 use patricia_tree::{BorrowedBytes, Bytes, GenericPatriciaMap, Steps};
 use std::alloc::{AllocError, Global};
 use std::iter;
@@ -112,6 +112,11 @@ fn has_owned<K: Bytes>(map: GenericPatriciaMap<K, u64>) -> bool {
     map.into_iter().next().is_some()
 }
 
+// Whether a search among the keys of a map finds some.
+fn has_near<Q: BorrowedBytes>(map: &GenericPatriciaMap<Q::Owned, u64>, sought: Q) -> bool {
+    !matches!(map.within(sought, u32::MAX).advance(), Ok(false))
+}
+
 // Whether no walk over a map gives an entry, nor one over what is left once it is cleared.
 fn is_empty_each_way<K: Bytes>(mut map: GenericPatriciaMap<K, u64>) -> bool {
     if has_entry(&map) || has_key(&map) || has_value(&map) {
@@ -150,6 +155,16 @@ fn look_up_each<Q: BorrowedBytes>(
 ) {
     assert!(rt; are_found::<Q, Brand>(map, keys.stored, true, Blank::new(1)));
     assert!(rt; are_found::<Q, Brand>(map, keys.absent, false, Blank::new(1)));
+}
+
+// Looks all keys up at once.
+fn look_up_all<Q: BorrowedBytes>(
+    rt: &impl Abort,
+    map: &GenericPatriciaMap<Q::Owned, u64>,
+    keys: &[Q],
+) {
+    holds!(rt; map.get_many_into(keys, &mut [None; 9]) == keys.len());
+    holds!(rt; map.contains_many_into(keys, &mut [false; 9]) == keys.len());
 }
 
 // Whether a map that is not empty has as many keys as are left, and the empty one.
@@ -262,6 +277,7 @@ fn call_each<Q: BorrowedBytes>(
     keys: &Keys<'_, Q>,
 ) -> Result<(), AllocError> {
     look_up_each(rt, map, keys);
+    look_up_all(rt, map, keys.stored);
     take_each(rt, alloc, map, keys)?;
     change_each(rt, map, keys);
     Ok(())
@@ -287,7 +303,11 @@ fn call_all<Q: BorrowedBytes>(
 ) -> Result<(), AllocError> {
     call_one(rt, alloc, keys)?;
     holds!(rt; is_cleared(map_of(alloc, keys.stored)?));
-    holds!(rt; is_empty_each_way(GenericPatriciaMap::<Q::Owned, u64>::new(alloc)));
+    let empty = GenericPatriciaMap::<Q::Owned, u64>::new(alloc);
+    for key in keys.empty {
+        holds!(rt; !has_near(&empty, *key));
+    }
+    holds!(rt; is_empty_each_way(empty));
     Ok(())
 }
 
@@ -376,21 +396,21 @@ const TEXTS: Keys<'static, &'static str> = Keys {
 };
 
 #[test]
-fn bytes_made(rt: HostRuntime) -> Result<(), AllocError> {
-    make(&rt, rt.alloc(), &BYTES)
+fn bytes_made(rt: HostRuntime) {
+    done(&rt, make(&rt, rt.alloc(), &BYTES));
 }
 
 #[test]
-fn bytes_called(rt: HostRuntime) -> Result<(), AllocError> {
-    call_all(&rt, rt.alloc(), &BYTES)
+fn bytes_called(rt: HostRuntime) {
+    done(&rt, call_all(&rt, rt.alloc(), &BYTES));
 }
 
 #[test]
-fn texts_made(rt: HostRuntime) -> Result<(), AllocError> {
-    make(&rt, rt.alloc(), &TEXTS)
+fn texts_made(rt: HostRuntime) {
+    done(&rt, make(&rt, rt.alloc(), &TEXTS));
 }
 
 #[test]
-fn texts_called(rt: HostRuntime) -> Result<(), AllocError> {
-    call_all(&rt, rt.alloc(), &TEXTS)
+fn texts_called(rt: HostRuntime) {
+    done(&rt, call_all(&rt, rt.alloc(), &TEXTS));
 }

@@ -1,6 +1,6 @@
 // The calls about prefixes of keys, with each walk over common prefixes read to its end.
 use super::helpers::map_of;
-use crate::tests::asserts::{holds, same};
+use crate::tests::asserts::{done, holds, same};
 use patricia_tree::{BorrowedBytes, Bytes, GenericPatriciaMap};
 use std::alloc::{AllocError, Global};
 use std::process::Abort;
@@ -45,13 +45,15 @@ fn count_along_owned<K: Bytes>(
     holds!(rt; values == count);
 }
 
-// Makes iterators and cursors from a key on, up to it, and under it.
+// Makes iterators and cursors from a key on, up to it, under it and near it.
 fn make_ranges<Q: BorrowedBytes>(map: &GenericPatriciaMap<Q::Owned, u64>, key: Q) {
     drop(map.range_from(key));
     drop(map.range(key, key));
     drop(map.cursor_from(key));
     drop(map.cursor_range(key, key));
     drop(map.cursor_prefix(key));
+    drop(map.within(key, 1));
+    drop(map.within(key, u32::MAX));
 }
 
 // The other calls. A walk under a prefix is made here, and not read, and so are ranges.
@@ -131,21 +133,21 @@ const TEXT_KEYS: [(&str, usize); 7] = [
 ];
 
 #[test]
-fn bytes_made(rt: HostRuntime) -> Result<(), AllocError> {
-    check_all(&rt, rt.alloc(), &BYTES, &BYTE_KEYS, false)
+fn bytes_made(rt: HostRuntime) {
+    done(&rt, check_all(&rt, rt.alloc(), &BYTES, &BYTE_KEYS, false));
 }
 
 #[test]
-fn bytes_called(rt: HostRuntime) -> Result<(), AllocError> {
-    check_all(&rt, rt.alloc(), &BYTES, &BYTE_KEYS, true)
+fn bytes_called(rt: HostRuntime) {
+    done(&rt, check_all(&rt, rt.alloc(), &BYTES, &BYTE_KEYS, true));
 }
 
 #[test]
-fn texts_made(rt: HostRuntime) -> Result<(), AllocError> {
-    check_all(&rt, rt.alloc(), &TEXTS, &TEXT_KEYS, false)
+fn texts_made(rt: HostRuntime) {
+    done(&rt, check_all(&rt, rt.alloc(), &TEXTS, &TEXT_KEYS, false));
 }
 
 #[test]
-fn texts_called(rt: HostRuntime) -> Result<(), AllocError> {
-    check_all(&rt, rt.alloc(), &TEXTS, &TEXT_KEYS, true)
+fn texts_called(rt: HostRuntime) {
+    done(&rt, check_all(&rt, rt.alloc(), &TEXTS, &TEXT_KEYS, true));
 }

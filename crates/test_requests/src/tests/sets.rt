@@ -6,13 +6,15 @@ use std::alloc::{AllocError, Global};
 use std::iter;
 use std::process::Abort;
 
-// Makes iterators and cursors from an element on, up to it, and under it.
+// Makes iterators and cursors from an element on, up to it, under it and near it.
 fn make_ranges<Q: BorrowedBytes>(set: &GenericPatriciaSet<Q::Owned>, element: Q) {
     drop(set.range_from(element));
     drop(set.range(element, element));
     drop(set.cursor_from(element));
     drop(set.cursor_range(element, element));
     drop(set.cursor_prefix(element));
+    drop(set.within(element, 1));
+    drop(set.within(element, u32::MAX));
 }
 
 // Questions about an element of the set, or about what is none.
@@ -117,6 +119,11 @@ fn clear<K: Bytes>(rt: &impl Abort, mut set: GenericPatriciaSet<K>) {
     holds!(rt; set.len() == 0);
 }
 
+// Whether a search in an empty set ends at once.
+fn ends_at_once<Q: BorrowedBytes>(set: &GenericPatriciaSet<Q::Owned>, none: Q) -> bool {
+    matches!(set.within(none, u32::MAX).advance(), Ok(false))
+}
+
 // Calls on a set that the empty prefix leaves empty.
 fn empty<Q: BorrowedBytes>(
     rt: &impl Abort,
@@ -125,6 +132,7 @@ fn empty<Q: BorrowedBytes>(
 ) -> Result<(), AllocError> {
     clear(rt, set.split_by_prefix(none)?);
     look_at_none(rt, set);
+    holds!(rt; ends_at_once(set, none));
     in_and_out(rt, set, none);
     Ok(())
 }
@@ -149,6 +157,23 @@ fn call_each<Q: BorrowedBytes>(
     for element in absent {
         ask(rt, set, *element, false);
     }
+    holds!(rt; set.contains_many_into(there, &mut [false; 8]) == there.len());
+}
+
+// Makes a set, and then each call.
+fn call_all<Q: BorrowedBytes>(
+    rt: &impl Abort,
+    alloc: Global,
+    there: &[Q],
+    absent: &[Q],
+    other: Q,
+    none: Q,
+) -> Result<(), AllocError> {
+    let mut set = set_of(alloc, there)?;
+    call_each(rt, &mut set, there, absent, other);
+    empty(rt, &mut set, none)?;
+    walk_out(rt, set);
+    make_one(alloc, none)
 }
 
 const BYTES: [&[u8]; 4] = [
@@ -167,12 +192,18 @@ fn bytes_made(rt: HostRuntime) {
 }
 
 #[test]
-fn bytes_called(rt: HostRuntime) -> Result<(), AllocError> {
-    let mut set = set_of(rt.alloc(), &BYTES)?;
-    call_each(&rt, &mut set, &BYTES, &ABSENT_BYTES, b"y".as_slice());
-    empty(&rt, &mut set, b"".as_slice())?;
-    walk_out(&rt, set);
-    make_one(rt.alloc(), b"".as_slice())
+fn bytes_called(rt: HostRuntime) {
+    done(
+        &rt,
+        call_all(
+            &rt,
+            rt.alloc(),
+            &BYTES,
+            &ABSENT_BYTES,
+            b"y".as_slice(),
+            b"".as_slice(),
+        ),
+    );
 }
 
 const TEXTS: [&str; 4] = ["", "あい", "あいろ", "xxxxxxxxxxxxxxxxxxxxyyyyyyyyyyyyyyyyyyyy"];
@@ -186,10 +217,6 @@ fn texts_made(rt: HostRuntime) {
 }
 
 #[test]
-fn texts_called(rt: HostRuntime) -> Result<(), AllocError> {
-    let mut set = set_of(rt.alloc(), &TEXTS)?;
-    call_each(&rt, &mut set, &TEXTS, &ABSENT, "y");
-    empty(&rt, &mut set, "")?;
-    walk_out(&rt, set);
-    make_one(rt.alloc(), "")
+fn texts_called(rt: HostRuntime) {
+    done(&rt, call_all(&rt, rt.alloc(), &TEXTS, &ABSENT, "y", ""));
 }
