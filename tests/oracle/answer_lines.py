@@ -1,13 +1,10 @@
-"""What `test_scripts` must answer, by the plain model of model.py.
-
-    python3 -B -m tests.oracle.answer_lines < crates/test_scripts/stdin > crates/test_scripts/stdout
+"""What lines must be answered, by the plain model of model.py.
 
 A call NAME of a line is the method `do_NAME` of what the line's kind is: a map, a set or a router, over a dictionary.
 """
 import json
-import sys
+import re
 import unicodedata
-from functools import lru_cache
 from urllib.parse import unquote_to_bytes
 from tests.oracle.model import (MAX_VALUE, NARROW, WIDE, common, first_item, floor_boundary, is_valid, read_tree, rows,
                                 tree_bytes, under)
@@ -23,6 +20,9 @@ OF_EACH = {'get', 'contains', 'remove', 'longest', 'reach', 'count', 'fold', 'be
 # Characters that a Debug text writes with a letter.
 ESCAPES = {'"': '\\"', '\\': '\\\\', '\t': '\\t', '\n': '\\n', '\r': '\\r', '\0': '\\0'}
 
+# How each byte of a key is written.
+WRITTEN = [chr(c) if chr(c).isalnum() and c < 128 else '%%%02X' % c for c in range(256)]
+
 # ---- Words and answers ------------------------------------------------------
 
 
@@ -35,10 +35,17 @@ def argument(word):
     return key
 
 
-@lru_cache(maxsize=None)
 def written(key):
     """A key in letters, digits and escapes."""
-    return ''.join(chr(c) if chr(c).isalnum() and c < 128 else '%%%02X' % c for c in key)
+    return ''.join(map(WRITTEN.__getitem__, key))
+
+
+def word(b):
+    """Bytes as a word, in which runs of one byte are parts."""
+    parts = []
+    for run in re.findall(rb'(?s)(.)(\1{11,})|((?:(.)(?!\4{11}))+)', b):
+        parts.append('%s*%d' % (written(run[0]), len(run[1]) + 1) if run[1] else written(run[2]))
+    return '+'.join(parts) or '*'
 
 
 def shown(value):
@@ -308,6 +315,16 @@ class Whole:
     def do_reload_wide(self):
         return self.do_reload(WIDE)
 
+    def do_open(self, tree, count, width=NARROW):
+        keys, fault = read_tree(tree, int(count), self.kind, width)
+        if fault:
+            return [fault]
+        self.become((key, n) for n, key in enumerate(keys, 1))
+        return self.do_len()
+
+    def do_open_wide(self, tree, count):
+        return self.do_open(tree, count, WIDE)
+
     def do_read(self, tree, *words, width=NARROW):
         values = self.read_values(words)
         keys, fault = read_tree(tree, len(values), self.kind, width)
@@ -546,15 +563,3 @@ def calls(lines, kind):
         its_kind, *rest = line.split(' ')
         if its_kind == kind and rest:
             yield line, rest[0], [argument(word) for word in rest[1:]]
-
-
-def main():
-    lines = sys.stdin.read().split('\n')[:-1]
-    for kind in KINDS:
-        m = {}
-        for line, call, words in calls(lines, kind):
-            print(line + ': ' + ' '.join(answers(m, kind, call, words)))
-
-
-if __name__ == '__main__':
-    main()

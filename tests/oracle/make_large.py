@@ -13,7 +13,7 @@ the plain models, model.py and answer_lines.py.
 import os
 import sys
 from tests.oracle.answer_lines import answers, calls, written
-from tests.oracle.answer_wire import tree_bytes
+from tests.oracle.model import tree_bytes
 from tests.oracle.make_cases import write
 from tests.oracle.model import answer
 

@@ -74,6 +74,21 @@ impl<'a, Q: Readable<'a>> Whole<'a, Q> for MapCalls<Q::Owned> {
         self.map.len()
     }
 
+    fn open(
+        &mut self,
+        alloc: Global,
+        is_wide: bool,
+        tree: &[u8],
+        count: usize,
+    ) -> Result<(), DecodeError> {
+        let values = match numbers(alloc, count) {
+            Ok(values) => values,
+            Err(_) => return Err(DecodeError::Memory),
+        };
+        self.map = read(alloc, is_wide, tree, values)?;
+        Ok(())
+    }
+
     fn read_again(&mut self, alloc: Global, is_wide: bool, tree: &[u8]) -> Result<(), DecodeError> {
         let values = match copied_values(alloc, &self.map) {
             Ok(values) => values,
@@ -273,6 +288,15 @@ fn values_again(alloc: Global, arguments: &[Vec<u8>]) -> Result<Vec<u64>, AllocE
         Ok(values) => Ok(values),
         Err(_) => values(alloc, arguments),
     }
+}
+
+// The numbers from 1 on.
+fn numbers(alloc: Global, count: usize) -> Result<Vec<u64>, AllocError> {
+    let mut numbers = Vec::new(alloc);
+    for n in 1..=count {
+        numbers.push(n as u64)?;
+    }
+    Ok(numbers)
 }
 
 fn copied_values<K: Bytes>(alloc: Global, map: &Map<K>) -> Result<Vec<u64>, AllocError> {

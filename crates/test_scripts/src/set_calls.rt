@@ -72,6 +72,21 @@ impl<'a, Q: Readable<'a>> Whole<'a, Q> for SetCalls<Q::Owned> {
         self.set.len()
     }
 
+    fn open(
+        &mut self,
+        alloc: Global,
+        is_wide: bool,
+        tree: &[u8],
+        count: usize,
+    ) -> Result<(), DecodeError> {
+        let values = match nothings(alloc, count) {
+            Ok(values) => values,
+            Err(_) => return Err(DecodeError::Memory),
+        };
+        self.set = read(alloc, is_wide, tree, values)?;
+        Ok(())
+    }
+
     fn read_again(&mut self, alloc: Global, is_wide: bool, tree: &[u8]) -> Result<(), DecodeError> {
         let values = match nothings(alloc, self.set.len()) {
             Ok(values) => values,

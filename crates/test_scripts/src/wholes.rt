@@ -2,8 +2,8 @@
 
 use crate::answering::{Listed, add_entries};
 use crate::answers::Answers;
-use crate::encodings;
 use crate::kinds::Readable;
+use crate::{calls, encodings};
 use patricia_tree::wire::{DecodeError, WireError};
 use std::alloc::{AllocError, Global};
 use std::mem;
@@ -24,6 +24,15 @@ pub trait Whole<'a, Q: Readable<'a>>: Listed {
 
     /// How many entries there are.
     fn count(&self) -> usize;
+
+    /// Puts what tree bytes mean with the numbers from 1 on as values in place of it.
+    fn open(
+        &mut self,
+        alloc: Global,
+        is_wide: bool,
+        tree: &[u8],
+        count: usize,
+    ) -> Result<(), DecodeError>;
 
     /// Puts what tree bytes mean with the values that are there in place of it.
     fn read_again(&mut self, alloc: Global, is_wide: bool, tree: &[u8]) -> Result<(), DecodeError>;
@@ -55,6 +64,7 @@ pub fn answer<'a, Q: Readable<'a>, W: Whole<'a, Q>>(
         "split" | "split_off" => add_split(asked, call == "split_off", arguments, out),
         "twin" => add_twin(asked, out),
         "part" => add_part(asked, arguments, out),
+        "open" | "open_wide" => add_opened(asked, alloc, call == "open_wide", arguments, out),
         "reload" | "reload_wide" => add_reloaded(asked, alloc, call == "reload_wide", out),
         "fronts" => put_fronts(asked, arguments),
         "tree" | "tree_wide" => out.add_tree(asked.tree(call == "tree_wide")),
@@ -131,6 +141,23 @@ fn add_part<'a, Q: Readable<'a>, W: Whole<'a, Q>>(
         return out.add_number(left.count() as u64);
     }
     out.add("unknown")
+}
+
+// How many entries there are, or the fault, once tree bytes are read with so many values.
+fn add_opened<'a, Q: Readable<'a>, W: Whole<'a, Q>>(
+    asked: &mut W,
+    alloc: Global,
+    is_wide: bool,
+    arguments: &'a [Vec<u8>],
+    out: &mut String,
+) -> Result<(), AllocError> {
+    let [tree, count] = arguments else {
+        return out.add("unknown");
+    };
+    match asked.open(alloc, is_wide, tree, calls::number(count)) {
+        Ok(()) => out.add_number(asked.count() as u64),
+        Err(fault) => out.add_fault(fault),
+    }
 }
 
 // How many entries there are once the tree bytes are read again.

@@ -38,6 +38,8 @@ impl<K: Kind> Answering for Map<K> {
         "same",
         "retain",
         "fronts",
+        "open",
+        "open_wide",
         "read",
         "read_wide",
         "iter",
@@ -292,6 +294,20 @@ impl<K: Kind> Map<K> {
             "read_wide" => {
                 let read = GenericPatriciaMap::try_from_wide_tree_bytes(&words[0], values());
                 return Some(self.become_read(read));
+            }
+            "open" | "open_wide" => {
+                let values = (1..=number(&words[1])).collect();
+                let open = match is_wide {
+                    true => GenericPatriciaMap::from_wide_tree_bytes(&words[0], values),
+                    false => GenericPatriciaMap::from_tree_bytes(&words[0], values),
+                };
+                return Some(vec![match open {
+                    Ok(open) => {
+                        self.0 = open;
+                        self.0.len().to_string()
+                    }
+                    Err(fault) => fault.to_string(),
+                }]);
             }
             "tree" | "size" | "reload" => map.try_tree_bytes(),
             "tree_wide" | "size_wide" | "reload_wide" => map.try_wide_tree_bytes(),

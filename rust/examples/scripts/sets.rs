@@ -30,6 +30,8 @@ impl<K: Kind> Answering for Set<K> {
         "same",
         "retain",
         "fronts",
+        "open",
+        "open_wide",
         "union",
         "intersection",
         "difference",
@@ -209,6 +211,20 @@ impl<K: Kind> Set<K> {
             "read_wide" => {
                 let read = GenericPatriciaSet::from_wide_tree_bytes(&words[0], count());
                 return Some(self.become_read(read));
+            }
+            "open" | "open_wide" => {
+                let values = number(&words[1]) as usize;
+                let open = match is_wide {
+                    true => GenericPatriciaSet::from_wide_tree_bytes(&words[0], values),
+                    false => GenericPatriciaSet::from_tree_bytes(&words[0], values),
+                };
+                return Some(vec![match open {
+                    Ok(open) => {
+                        self.0 = open;
+                        self.0.len().to_string()
+                    }
+                    Err(fault) => fault.to_string(),
+                }]);
             }
             "tree" | "size" | "reload" => set.try_tree_bytes(),
             "tree_wide" | "size_wide" | "reload_wide" => set.try_wide_tree_bytes(),
