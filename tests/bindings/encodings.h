@@ -10,6 +10,16 @@ static writer *writer_of(const asked *a, bool is_wide)
     return is_wide ? patricia_wide_tree_bytes : patricia_tree_bytes;
 }
 
+/* The same of a handle. */
+static uint32_t write_shared(const asked *a, bool is_wide, size_t *len)
+{
+    if (a->is_text)
+        return (is_wide ? patricia_shared_text_wide_tree_bytes : patricia_shared_text_tree_bytes)(
+            &a->shared, tree_room, ROOM, len);
+    return (is_wide ? patricia_shared_wide_tree_bytes : patricia_shared_tree_bytes)(
+        &a->shared, tree_room, ROOM, len);
+}
+
 static reader *reader_of(const asked *a, bool is_wide)
 {
     if (a->is_text)
@@ -20,7 +30,8 @@ static reader *reader_of(const asked *a, bool is_wide)
 /* Writes the tree bytes to their room, or adds why there are none. */
 static uint32_t write_tree(const asked *a, bool is_wide, size_t *len)
 {
-    uint32_t result = writer_of(a, is_wide)(&a->map, tree_room, ROOM, len);
+    uint32_t result = a->is_shared ? write_shared(a, is_wide, len)
+                                   : writer_of(a, is_wide)(&a->map, tree_room, ROOM, len);
     if (result == PATRICIA_TOO_DEEP)
         add_text("tree deeper than level 65535");
     return result;

@@ -11,19 +11,26 @@ typedef struct {
     size_t len;
 } word;
 
-/* Of each kind of lines the map, which is a set or has texts as keys where the kind says so. */
+/* Of each kind of lines the map, which is a set or has texts as keys if the kind says so, or while
+ * it is shared a handle of it. */
 typedef struct {
     const char *name;
-    bool is_set, is_text;
+    bool is_set, is_text, is_shared;
     patricia_map map;
+    patricia_shared shared;
 } asked;
 
 static asked kinds[] = {
-    {"bytes", false, false, PATRICIA_MAP_INIT},
-    {"text", false, true, PATRICIA_MAP_INIT},
-    {"bytes_set", true, false, PATRICIA_MAP_INIT},
-    {"text_set", true, true, PATRICIA_MAP_INIT},
+    {.name = "bytes"},
+    {.name = "text", .is_text = true},
+    {.name = "bytes_set", .is_set = true},
+    {.name = "text_set", .is_set = true, .is_text = true},
 };
+
+/* A call that reads, of a map or of a handle. */
+#define ASK(name, a, ...)                                                                          \
+    ((a)->is_shared ? patricia_shared_##name(&(a)->shared, __VA_ARGS__)                            \
+                    : patricia_##name(&(a)->map, __VA_ARGS__))
 
 static char line[ROOM], out[ROOM];
 static uint8_t pool[ROOM], key_room[ROOM], tree_room[ROOM];

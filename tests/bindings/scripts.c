@@ -2,6 +2,7 @@
  *
  *     scripts calls      the kinds of lines with their calls
  *     scripts < LINES    the lines with their answers
+ *     scripts shared     the same, by handles of maps if a call reads
  *
  * crates/test_scripts/src/main.rt says what a line is. Memory is asked for by the library alone. */
 #include "lines.h"
@@ -13,9 +14,10 @@ static uint32_t add_iterated(const asked *a, word prefix)
     patricia_iterator walk = PATRICIA_ITERATOR_INIT;
     size_t len;
     uint64_t value = 0;
-    uint32_t result = a->is_text ? patricia_text_iterate(&a->map, (const char *)prefix.at,
-                                                         prefix.len, &walk)
-                                 : patricia_iterate(&a->map, prefix.at, prefix.len, &walk);
+    uint32_t result = a->is_text && !a->is_shared
+                          ? patricia_text_iterate(&a->map, (const char *)prefix.at, prefix.len,
+                                                  &walk)
+                          : ASK(iterate, a, prefix.at, prefix.len, &walk);
     if (result == PATRICIA_DONE) {
         size_t left = patricia_iterator_len(&walk);
         while ((a->is_set ? patricia_set_iterator_next(&walk, key_room, ROOM, &len)
@@ -40,18 +42,30 @@ static void add_all(const asked *a)
     CHECK(add_iterated(a, all) == PATRICIA_DONE);
 }
 
+static uint32_t step(const asked *a, patricia_cursor *cursor)
+{
+    return a->is_shared ? patricia_shared_cursor_next(cursor, &a->shared, key_room, ROOM, lens,
+                                                      values)
+                        : patricia_cursor_next(cursor, &a->map, key_room, ROOM, lens, values);
+}
+
+static uint32_t step_many(const asked *a, patricia_cursor *cursor, size_t *many)
+{
+    size_t len;
+    return a->is_shared
+               ? patricia_shared_cursor_next_many(cursor, &a->shared, key_room, ROOM, lens, 3,
+                                                  values, 3, many, &len)
+               : patricia_cursor_next_many(cursor, &a->map, key_room, ROOM, lens, 3, values, 3,
+                                           many, &len);
+}
+
 /* What is ahead of a cursor, in turns one by one and as a block. */
 static uint32_t add_ahead(const asked *a, patricia_cursor *cursor)
 {
     uint32_t result = PATRICIA_ENTRY;
-    size_t len, many = 0;
     for (bool is_block = false; result == PATRICIA_ENTRY; is_block = !is_block) {
-        many = 1;
-        if (is_block)
-            result = patricia_cursor_next_many(cursor, &a->map, key_room, ROOM, lens, 3, values, 3,
-                                               &many, &len);
-        else
-            result = patricia_cursor_next(cursor, &a->map, key_room, ROOM, lens, values);
+        size_t many = 1;
+        result = is_block ? step_many(a, cursor, &many) : step(a, cursor);
         for (size_t i = 0, at = 0; result == PATRICIA_ENTRY && i < many; at += lens[i++])
             add_entry(a, key_room + at, lens[i], values[i]);
     }
@@ -251,8 +265,9 @@ static uint32_t counted(asked *a, bool is_cut)
             result = a->is_text ? patricia_text_remove_prefix(&a->map, text, len, &n)
                                 : patricia_remove_prefix(&a->map, words[at].at, len, &n);
         else
-            result = a->is_text ? patricia_text_count_prefix(&a->map, text, len, &n)
-                                : patricia_count_prefix(&a->map, words[at].at, len, &n);
+            result = a->is_text && !a->is_shared
+                         ? patricia_text_count_prefix(&a->map, text, len, &n)
+                         : ASK(count_prefix, a, words[at].at, len, &n);
         if (result == PATRICIA_DONE)
             add_number(n);
     }
@@ -281,13 +296,23 @@ static const char *const OTHERS[] = {"insert", "remove", "extend", "from_iter", 
                                      "beside", "count",  "cut",      "iter",    "under", NULL};
 static const char *const OF_MAPS[] = {"get", "within", NULL};
 
+/* Calls that read. */
+static const char *const READING[] = {
+    "get",    "contains", "len",   "empty", "longest", "reach",  "ends",   "beside",
+    "count",  "iter",     "under", "range", "within",  "cursor", "cursor_range", "cursor_prefix",
+    "tree",   "tree_wide", "size", "size_wide", NULL};
+
+/* Whether calls that read are asked of a handle. */
+static bool are_handles_asked;
+
 /* Calls that cannot run out of memory. */
 static bool answer_at_once(asked *a, const char *call)
 {
+    size_t len = a->is_shared ? patricia_shared_len(&a->shared) : patricia_len(&a->map);
     if (strcmp(call, "len") == 0)
-        add_number(patricia_len(&a->map));
+        add_number(len);
     else if (strcmp(call, "empty") == 0)
-        add_bool(patricia_len(&a->map) == 0);
+        add_bool(len == 0);
     else if (strcmp(call, "get") == 0 || strcmp(call, "contains") == 0)
         look_up(a, *call == 'g');
     else if (strcmp(call, "longest") == 0)
@@ -332,12 +357,16 @@ static void answer_line(asked *a, const char *call)
     size_t len = strlen(line);
     out_len = 0;
     read_words(line + strlen(a->name) + 1 + strlen(call));
+    a->is_shared = are_handles_asked && is_one_of(call, READING);
+    CHECK(!a->is_shared || patricia_freeze(&a->map, &a->shared) == PATRICIA_DONE);
     if (answer(a, call) != PATRICIA_DONE) {
         add_text("refused");
         add_all(a);
         add_text("again");
         CHECK(answer(a, call) == PATRICIA_DONE);
     }
+    CHECK(!a->is_shared || patricia_thaw(&a->shared, &a->map) == PATRICIA_DONE);
+    a->is_shared = false;
     CHECK(fwrite(line, 1, len, stdout) == len && fputc(':', stdout) != EOF);
     CHECK(out_len != 0 ? fwrite(out, 1, out_len, stdout) == out_len : fputc(' ', stdout) != EOF);
     CHECK(fputc('\n', stdout) != EOF);
@@ -372,6 +401,7 @@ int main(int argc, char **argv)
     static char read_buffer[1 << 16], write_buffer[1 << 16];
     setvbuf(stdin, read_buffer, _IOFBF, sizeof read_buffer);
     setvbuf(stdout, write_buffer, _IOFBF, sizeof write_buffer);
+    are_handles_asked = argc == 2 && strcmp(argv[1], "shared") == 0;
     if (argc == 2 && strcmp(argv[1], "calls") == 0)
         print_calls();
     else
