@@ -27,7 +27,6 @@ EXAMPLES = [
     'test_map/src/tests/read_cursor_examples.rt',
     'test_map/src/tests/key_examples.rt',
     'test_map/src/tests/router_examples.rt',
-    'test_units/src/tests/unit_examples.rt',
     'test_wire/src/tests/json/examples.rt',
     'test_walks/src/tests/set_examples.rt',
     'test_walks/src/tests/set_range_examples.rt',

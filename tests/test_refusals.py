@@ -22,7 +22,6 @@ FREE = {
     'test_requests': ['%s::%s' % (part, kind) for part in ('maps', 'walks', 'prefixes', 'keys', 'loans', 'near', 'sets')
                       for kind in ('bytes', 'texts')] + ['counts::texts', 'counts::nested'],
     'test_run': ['router::bytes', 'router::texts'],
-    'test_units': ['units::keys'],
 }
 MOST_BYTES = 4096
 

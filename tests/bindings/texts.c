@@ -1,5 +1,5 @@
 /* What the functions of texts return of bytes that are none, and what else no line of scripts.c can
- * ask of them. */
+ * ask of them and of those of sets. */
 #include "check.h"
 #include <patricia.h>
 #include <string.h>
@@ -76,8 +76,29 @@ static void text_encodings(void)
     patricia_free(&back);
 }
 
+/* Numbers of elements that are greater than those of the bytes. */
+static void sets(void)
+{
+    patricia_set set = PATRICIA_SET_INIT, back = PATRICIA_SET_INIT;
+    uint8_t array[64];
+    size_t len = 0, offset = 9;
+    CHECK(patricia_set_insert(&set, bytes_of("foo"), 3) == PATRICIA_ABSENT);
+    CHECK(patricia_tree_bytes(&set, array, sizeof array, &len) == PATRICIA_DONE);
+    CHECK(patricia_set_from_tree_bytes(&back, array, len, 1, &offset) == PATRICIA_DONE);
+    CHECK(patricia_set_contains(&back, bytes_of("foo"), 3) && offset == 9);
+    CHECK(patricia_set_from_tree_bytes(&back, array, 4, 0, &offset) == PATRICIA_TRUNCATED);
+    CHECK(offset == 4 && patricia_len(&back) == 0);
+    CHECK(patricia_set_from_tree_bytes(&back, array, 0, SIZE_MAX, &offset) == PATRICIA_TRUNCATED);
+    CHECK(offset == 0);
+    CHECK(patricia_set_from_tree_bytes(&back, array, len, SIZE_MAX, &offset) ==
+          PATRICIA_TOO_MANY_VALUES);
+    patricia_free(&set);
+    patricia_free(&back);
+}
+
 int main(void)
 {
+    sets();
     texts();
     text_encodings();
     puts("ok");
