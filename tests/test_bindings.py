@@ -179,11 +179,11 @@ class Lines(Installed):
         self.assert_ends(ran, lines.answered(made))
 
     @each(*lines.MADE)
-    def lines(self, name):
+    def answers_to(self, name):
         self.answers(name)
 
     @each(*(name for name in lines.MADE if name != 'damage'))
-    def lines_of_handles(self, name):
+    def answers_of_handles(self, name):
         """The same where calls that read are asked of a handle."""
         self.answers(name, words=['shared'])
 

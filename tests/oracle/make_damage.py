@@ -1,7 +1,7 @@
 """Damaged encodings, as lines for `test_scripts`: each byte of three encodings is each other byte in turn, and each
 proper prefix of them is read, with levels of both widths."""
-from tests.oracle.answer_lines import word
 from tests.oracle.model import NARROW, WIDE, tree_bytes
+from tests.oracle.words import word
 
 # a kind of keys, and keys: of the last a label of 255 bytes would end inside of a character
 DAMAGED = (('bytes', [b'bar', b'baz', b'foo']), ('bytes', [b'', b'a']),

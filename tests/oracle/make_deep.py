@@ -13,9 +13,9 @@ Each NAME.out is the answer by model.py.
 """
 import os
 import sys
-from tests.oracle.answer_lines import word, written
 from tests.oracle.make_cases import write
 from tests.oracle.model import answer
+from tests.oracle.words import word, written
 
 NESTED = [b'a' * n for n in range(1, 8001)]
 CHARACTERS = [chr(0x4E00 + n).encode() for n in range(30000)]

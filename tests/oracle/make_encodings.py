@@ -2,8 +2,8 @@
 encodings that are not tight or damaged."""
 import random
 from itertools import groupby
-from tests.oracle.answer_lines import word
 from tests.oracle.model import NARROW, WIDE, common, first_item, tree_bytes
+from tests.oracle.words import word
 
 A = ord('a')
 

@@ -1,6 +1,6 @@
 """Calls of maps and sets of which one may be refused, as scripts of lines for `test_scripts`."""
-from tests.oracle.answer_lines import argument, written
 from tests.oracle.model import NARROW, WIDE, tree_bytes
+from tests.oracle.words import argument, written
 
 
 def texts(keys):

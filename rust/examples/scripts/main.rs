@@ -6,6 +6,7 @@
 //! `crates/test_scripts/src/main.rt` says what a line is. Lines of other kinds are left out.
 
 mod encodings;
+mod key_calls;
 mod maps;
 mod sets;
 #[path = "../../tests/common/units.rs"]

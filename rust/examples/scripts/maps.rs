@@ -1,10 +1,9 @@
 //! The calls of a map.
 
 use crate::words::{drained, key, keys, number, pairs, row, shown, written};
-use crate::{Answering, Kind, encodings};
+use crate::{Answering, Kind, encodings, key_calls};
 use patricia::map::Cursor;
 use patricia::{BorrowedBytes, DecodeError, GenericPatriciaMap};
-use std::cmp::Ordering;
 use std::mem;
 
 /// A map that answers calls.
@@ -96,7 +95,7 @@ impl<K: Kind> Answering for Map<K> {
             .or_else(|| self.ask(call, words))
             .or_else(|| self.ask_prefixes(call, words))
             .or_else(|| self.ask_order(call, words))
-            .or_else(|| ask_keys::<K>(call, words))
+            .or_else(|| key_calls::answer::<K>(call, words))
     }
 }
 
@@ -451,55 +450,4 @@ impl<K: Kind> Map<K> {
         }
         folded.to_string()
     }
-}
-
-// The functions of the key traits.
-fn ask_keys<K: Kind>(call: &str, words: &[Vec<u8>]) -> Option<Vec<String>> {
-    let copy = |bytes: &Vec<u8>| {
-        shown(key::<K>(bytes).map(|key| written(key.to_owned().as_ref().as_bytes())))
-    };
-    match call {
-        "floor" => {
-            let floor = |bytes: &Vec<u8>| K::Part::floor_boundary(bytes).to_string();
-            return Some(words.iter().map(floor).collect());
-        }
-        "copy" => return Some(words.iter().map(copy).collect()),
-        _ => {}
-    }
-    let [bytes, other] = words else {
-        return None;
-    };
-    let Some(key) = key::<K>(bytes) else {
-        return Some(vec!["none".to_string()]);
-    };
-    Some(match call {
-        "common" => {
-            let (rest, len) = key.strip_common_prefix_and_len(other);
-            let again = key.strip_common_prefix(other);
-            let is_empty = rest.is_empty().to_string();
-            vec![
-                len.to_string(),
-                written(rest.as_bytes()),
-                written(again.as_bytes()),
-                is_empty,
-            ]
-        }
-        "first" if !K::Part::is_valid_bytes(other) => vec!["none".to_string()],
-        "first" => vec![match key.cmp_first_item(other) {
-            Ordering::Less => "less".to_string(),
-            Ordering::Equal => "equal".to_string(),
-            Ordering::Greater => "greater".to_string(),
-        }],
-        "halves" => match bytes.get(..number(other) as usize) {
-            Some(front) if K::Part::is_valid_bytes(front) => {
-                let (front, rest) = (
-                    key.keep_n_prefix(front.len()),
-                    key.strip_n_prefix(front.len()),
-                );
-                vec![written(front.as_bytes()), written(rest.as_bytes())]
-            }
-            _ => vec!["none".to_string()],
-        },
-        _ => return None,
-    })
 }
