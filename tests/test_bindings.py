@@ -11,6 +11,7 @@ import sys
 import time
 import unittest
 from tests.bindings import declared, documented
+from tests.oracle import lines, refuse_lines
 from tests.support import ROOT, Case, each, folder, run
 
 WARNINGS = ['-Wall', '-Wextra', '-Wpedantic', '-Werror']
@@ -107,17 +108,22 @@ class Installed(Case):
         return path
 
 
+PROGRAMS = 'calls', 'texts', 'refusals', 'threads', 'readers'
+# Lines that take little time under valgrind.
+SOME = 'order', 'near'
+
+
 class InC(Installed):
     """The programs of tests/bindings as they are, under valgrind and under sanitizers."""
 
-    @each(('calls',), ('refusals',), ('model', '1000000', '1'), ('threads',), ('readers',))
-    def program(self, name, *words):
-        self.says_ok(self.compiled(name), *words)
+    @each(*PROGRAMS)
+    def program(self, name):
+        self.says_ok(self.compiled(name))
 
-    @each(('calls',), ('refusals',), ('model', '20000', '2'), ('threads',), ('readers',))
-    def valgrind(self, name, *words):
+    @each(*PROGRAMS)
+    def valgrind(self, name):
         self.wants('valgrind')
-        self.says_ok(*CHECKED, self.compiled(name), *words)
+        self.says_ok(*CHECKED, self.compiled(name))
 
     @each('patricia_free', 'patricia_cursor_free', 'patricia_iterator_free', 'patricia_shared_free')
     def leak_of(self, name):
@@ -136,27 +142,20 @@ class InC(Installed):
         self.wants('valgrind')
         self.says_ok('valgrind', '-q', '--tool=helgrind', '--error-exitcode=9', self.compiled(name))
 
-    @each(('calls',), ('refusals',), ('model', '200000', '3'), ('threads',), ('readers',))
-    def sanitizers(self, name, *words):
-        self.sanitized(SANITIZE, name, *words)
+    @each(*PROGRAMS)
+    def sanitizers(self, name):
+        self.wants_sanitizers(*SANITIZE)
+        self.says_ok(self.compiled(name, *SANITIZE))
 
     @each('threads', 'readers')
     def sanitizer_of_threads(self, name):
-        self.sanitized(['-fsanitize=thread'], name)
+        self.wants_sanitizers('-fsanitize=thread')
+        self.says_ok(self.compiled(name, '-fsanitize=thread'))
 
-    def sanitized(self, flags, name, *words):
+    def wants_sanitizers(self, *flags):
         words_of = [os.environ.get('CC', 'cc'), *flags, '-x', 'c', '-o', self.path('none'), '-']
         if run(words_of, b'int main(void) { return 0; }').returncode or run([self.path('none')]).returncode:
             self.skipTest('no such sanitizers are installed')
-        self.says_ok(self.compiled(name, *flags), *words)
-
-    @each((), tuple(SANITIZE))
-    def corpus(self, *flags):
-        """The inputs that a fuzzer found to do different things."""
-        with open(os.path.join(ROOT, 'tests', 'bindings', 'corpus.txt'), 'rb') as file:
-            ran = run([self.compiled('model', '-DFUZZED', '-DCORPUS', *flags)], file.read())
-        self.assertEqual((ran.returncode, ran.stderr), (0, b''))
-        self.assertIn(b'ok, ', ran.stdout)
 
     def test_a_program_of_cpp(self):
         compiler = os.environ.get('CXX', 'c++')
@@ -166,11 +165,53 @@ class InC(Installed):
         self.says_ok(self.path('plus'))
 
 
+class Lines(Installed):
+    """The lines of `test_scripts` that C offers, against the independent model."""
+
+    def calls(self):
+        """The calls that the program offers."""
+        return set(run([self.compiled('scripts'), 'calls']).stdout.decode().split('\n'))
+
+    def answers(self, name, *before, flags=(), words=()):
+        """The program answers the lines of a name, in a run behind these words."""
+        made = sorted(lines.made(name, self.calls()), key=lambda line: lines.KINDS.index(line.split(' ')[0]))
+        ran = run([*before, self.compiled('scripts', *flags), *words], lines.data(made))
+        self.assert_ends(ran, lines.answered(made))
+
+    @each(*lines.MADE)
+    def answers_to(self, name):
+        self.answers(name)
+
+    @each(*(name for name in lines.MADE if name != 'damage'))
+    def answers_of_handles(self, name):
+        """The same where calls that read are asked of a handle."""
+        self.answers(name, words=['shared'])
+
+    @each(*SOME)
+    def valgrind(self, name):
+        self.wants('valgrind')
+        self.answers(name, *CHECKED)
+        self.answers(name, *CHECKED, words=['shared'])
+
+    @each(*lines.MADE)
+    def sanitizers(self, name):
+        InC.wants_sanitizers(self, *SANITIZE)
+        self.answers(name, flags=SANITIZE)
+
+    @each('maps', 'sets')
+    def refused(self, name):
+        """Each memory request of a run is refused in turn."""
+        refuse_lines.check(self.compiled('scripts'), name, self.calls())
+
+
 class Documents(Installed):
     """What is declared is what is exported, and the examples of docs/BINDINGS.md print what the page says."""
 
     def test_what_is_declared_is_what_is_exported(self):
         self.assertEqual(declared.faults(), [])
+
+    def test_each_function_is_called_by_a_program(self):
+        self.assertEqual(declared.uncalled(), [])
 
     def test_examples_are_there(self):
         self.assertEqual(tuple(documented.examples()), documented.NAMES)

@@ -1,4 +1,4 @@
-"""The cases of `ptree`, the calls of `test_scripts`, and both on many keys, against the independent model."""
+"""The cases of `ptree`, and `ptree` and `test_scripts` on many keys, against the independent model."""
 import os
 import shutil
 from tests.oracle import make_cases, model
@@ -7,8 +7,6 @@ from tests.support import ROOT, Case, each, folder, made, pairs, read, run
 WRITTEN = sorted(name[:-3] for name in os.listdir(os.path.join(ROOT, 'tests', 'cases')) if name.endswith('.in'))
 RANDOM = {name: (kind, lines) for name, kind, lines in make_cases.random_scripts()}
 CASES = [*WRITTEN, *RANDOM]
-# Each is made by a script of tests/oracle of this name.
-CALLS = 'labels', 'decimals', 'near', 'order'
 
 
 def case(name):
@@ -30,16 +28,6 @@ class Cases(Case):
         words, data, output, errors, status = case(name)
         ran = run([self.program('ptree', build), *words], data)
         self.assert_ends(ran, output, ran.stderr if errors is None else errors, status)
-
-
-class Calls(Case):
-    """`test_scripts` answers as the model does."""
-
-    @each(*pairs(CALLS))
-    def made_calls(self, name, build):
-        lines = made('make_' + name)
-        self.assertGreater(lines.count(b'\n'), 10)
-        self.assert_ends(run([self.program('test_scripts', build)], lines), made('answer_lines', data=lines))
 
 
 class Large(Case):
@@ -66,7 +54,3 @@ class Files(Case):
         self.assertEqual(sorted(os.listdir(room)), sorted(os.listdir(os.path.join(ROOT, 'tests', 'cases'))))
         for name in os.listdir(room):
             self.assertEqual(read(room, name), read('tests', 'cases', name), name)
-
-    def test_answers_to_scripts_are_those_of_the_model(self):
-        calls = read('crates', 'test_scripts', 'stdin')
-        self.assertEqual(made('answer_lines', data=calls), read('crates', 'test_scripts', 'stdout'))

@@ -73,7 +73,7 @@ class Single(Counted):
 class Programs(Case):
     """Programs with each request refused in turn."""
 
-    @each(*pairs(('maps', 'sets')))
+    @each(*pairs(('maps', 'sets', 'units', 'routers')))
     def scripts(self, name, build):
         refuse_lines.check(self.program('test_scripts', build), name)
 

@@ -89,6 +89,18 @@ def texts_of_errors():
     return [told.replace(' at {0}', '') for told in re.findall(r'#\[error\("([^"]+)"\)\]', body)[1:]]
 
 
+def uncalled():
+    """The functions of patricia.h, those whose body stands there included, that no program of tests/bindings calls."""
+    folder = os.path.join(ROOT, 'tests', 'bindings')
+    programs = ''.join(read(folder, name) for name in os.listdir(folder) if name.endswith(('.c', '.h')))
+    # ASK of lines.h calls a function of maps and that of handles
+    asked = re.findall(r'\bASK\((\w+)', programs)
+    called = {*re.findall(r'\bpatricia_\w+', programs), *(head + name for name in asked for head in
+                                                          ('patricia_', 'patricia_shared_'))}
+    text = re.sub(r'/\*.*?\*/', '', read('bindings', 'c', 'patricia.h'), flags=re.S)
+    return sorted({*re.findall(r'^[\w ]*[\w*] \*?(patricia_\w+)\(', text, re.M)} - called)
+
+
 def faults():
     """What is declared in another way than it is exported."""
     known = exported()

@@ -1,118 +1,18 @@
-"""What `test_scripts` must answer, by the plain model of model.py.
+"""What lines must be answered, by the plain model of model.py.
 
-    python3 -B -m tests.oracle.answer_lines < crates/test_scripts/stdin > crates/test_scripts/stdout
+A call NAME of a line is the method `do_NAME` of what the line's kind is: a map, a set or a router, over a dictionary.
 """
-import sys
-import unicodedata
-from functools import lru_cache
-from urllib.parse import unquote_to_bytes
-from tests.oracle.answer_readings import read
-from tests.oracle.answer_wire import NARROW, WIDE, tree_bytes
-from tests.oracle.model import MAX_VALUE, common, first_item, floor_boundary, is_valid, rows
+from tests.oracle.model import (MAX_VALUE, NARROW, WIDE, common, first_item, floor_boundary, is_valid, read_tree, rows,
+                                tree_bytes, under)
+from tests.oracle.words import argument, braces, compact, debug_character, edits, element, row, shown, truth, written
 
-KINDS = 'bytes', 'text', 'bytes_set', 'text_set'
+KINDS = [keys + shape for shape in ('', '_set', '_router') for keys in ('bytes', 'text', 'units')]
 
 # What a load answers that comes to a key which is not behind the last one.
 OUT_OF_ORDER = 'key out of order'
 
-# Characters that a Debug text writes with a letter.
-ESCAPES = {'"': '\\"', '\\': '\\\\', '\t': '\\t', '\n': '\\n', '\r': '\\r', '\0': '\\0'}
-
-
-def argument(word):
-    """The bytes that a word stands for."""
-    text, star, times = word.partition('*')
-    return unquote_to_bytes(text) * (int(times or 0) if star else 1)
-
-
-@lru_cache(maxsize=None)
-def written(key):
-    """A key in letters, digits and escapes."""
-    return ''.join(chr(c) if chr(c).isalnum() and c < 128 else '%%%02X' % c for c in key)
-
-
-def shown(value):
-    """A value, or that there is none."""
-    return 'none' if value is None else str(value)
-
-
-def truth(flag):
-    """The word for a truth value."""
-    return 'true' if flag else 'false'
-
-
-def row(entry):
-    """An entry of a map."""
-    return '%s=%d' % (written(entry[0]), entry[1])
-
-
-def map_answers(m, call, words):
-    """The answers to a call of a map, or None for another call."""
-    if call == 'insert':
-        answers = []
-        for key, value in zip(words[::2], words[1::2]):
-            answers.append(shown(m.get(key)))
-            m[key] = int(value)
-        return answers
-    if call in ('extend', 'from_iter'):
-        taken = [str(len(words) // 2)] if call == 'extend' else []
-        if call == 'from_iter':
-            m.clear()
-        m.update(zip(words[::2], map(int, words[1::2])))
-        return [*taken, *map(row, rows(m))]
-    if call == 'get':
-        return [shown(m.get(k)) for k in words]
-    if call == 'contains':
-        return [truth(k in m) for k in words]
-    if call == 'remove':
-        return [shown(m.pop(k, None)) for k in words]
-    if call == 'len':
-        return [str(len(m))]
-    if call == 'empty':
-        return [truth(not m)]
-    if call == 'keys':
-        return [written(k) for k, _ in rows(m)]
-    if call == 'values':
-        return [str(v) for _, v in rows(m)]
-    if call in ('iter', 'cursor', 'take', 'clear'):
-        answers = [row(e) for e in rows(m)] if call != 'clear' else []
-        if call in ('take', 'clear'):
-            m.clear()
-        return answers
-    return None
-
-
-def one_of(entries, at, shown_entry):
-    """The first entry or the last one, or that there is none."""
-    return shown_entry(entries[at]) if entries else 'none'
-
-
-def folded(is_set, entries):
-    """A number that tells in which order the values are met, or of a set the lengths of its elements."""
-    number = 0
-    for key, value in entries:
-        number = (number * 31 + (len(key) if is_set else value)) % 2 ** 64
-    return number
-
-
-def order_answers(m, call, words, shown_entry=row):
-    """The answers to a question about the order of the keys, or None for another call."""
-    entries = rows(m)
-    if call in ('range', 'cursor_range'):
-        start, ends = words[0], words[1:]
-        return [shown_entry(e) for e in entries if start <= e[0] and all(e[0] < end for end in ends)]
-    if call == 'ends':
-        return [one_of(entries, 0, shown_entry), one_of(entries, -1, shown_entry)]
-    if call == 'count':
-        return [str(sum(e[0].startswith(prefix) for e in entries)) for prefix in words]
-    if call == 'fold':
-        return [str(folded(shown_entry is element, [e for e in entries if e[0].startswith(p)])) for p in words]
-    if call == 'beside':
-        return [answer for key in words
-                for answer in (one_of([e for e in entries if e[0] < key], -1, shown_entry),
-                               one_of([e for e in entries if e[0] > key], 0, shown_entry))]
-    return None
-
+# Calls that pass over words that are no keys. Those that put pairs in do so, too.
+OF_EACH = {'get', 'contains', 'remove', 'longest', 'reach', 'count', 'fold', 'beside', 'route', 'route_all', 'drop_prefix'}
 
 def loaded(m, pairs):
     """The pairs up to the first whose key is not behind each key that is there by then."""
@@ -125,300 +25,452 @@ def loaded(m, pairs):
     return found
 
 
-def load_answers(m, pairs, shown_entry):
-    """How many pairs a load takes, whether one was out of order, and what is there then."""
-    found = loaded(m, pairs)
-    m.update(found)
-    is_whole = len(found) == len(pairs)
-    taken = [str(len(found))] if is_whole else [str(len(found) + 1), OUT_OF_ORDER]
-    return [*taken, *map(shown_entry, rows(m))]
+# ---- Maps and sets ----------------------------------------------------------
 
 
-def taking_answers(m, call, words, shown_entry=row):
-    """The answers to a call that takes entries by their place or their prefix, or None for another call."""
-    if call in ('pop_first', 'pop_last'):
-        at = 0 if call == 'pop_first' else -1
-        taken = rows(m)[at:][:1] if m else []
-    elif call == 'cut':
-        taken = [e for e in rows(m) if e[0].startswith(words[0])]
-    else:
-        return None
-    for key, _ in taken:
-        del m[key]
-    return [str(len(taken))] if call == 'cut' else [one_of(taken, 0, shown_entry)]
+class Whole:
+    """A map or a set of a kind of keys, over a dictionary that calls change."""
 
+    def __init__(self, kind, m):
+        self.kind, self.m = kind, m
 
-def made_answers(m, call, words):
-    """The answers to a call that makes or changes values, or None for another call."""
-    if call == 'raise':
-        before = rows(m)
-        m.update((key, min(value + int(words[0]), MAX_VALUE)) for key, value in before)
-        return list(map(row, before))
-    if call not in ('fill', 'update', 'get_or_insert'):
-        return None
-    answers = []
-    for key, value in zip(words[::2], map(int, words[1::2])):
-        if call == 'get_or_insert':
-            answers.append(str(m.get(key, 0)))
-            m[key] = value
-            continue
-        answers.append(truth(key not in m) if call == 'fill' else shown(m.get(key)))
-        if (key in m) == (call == 'update'):
-            m[key] = value
-    return answers
+    def answer(self, call, words):
+        """The answers to a call."""
+        if call in OF_EACH:
+            words = [word for word in words if is_valid(word, self.kind)]
+        return getattr(self, 'do_' + call, self.unknown)(*words)
 
+    def unknown(self, *words):
+        return ['unknown']
 
-def merging_answers(m, call, words):
-    """The answers to a call of a map with another one or with pairs in order, or None for another call."""
-    if call == 'retain':
-        count, kept = len(m), [e for e in rows(m) if e[1] >= int(words[0])]
-        m.clear()
-        m.update(kept)
-        return [str(count), *map(row, kept)]
-    if call == 'itself':
+    def become(self, entries):
+        entries = dict(entries)
+        self.m.clear()
+        self.m.update(entries)
+
+    def shown(self, entries):
+        return list(map(self.entry, entries))
+
+    def do_iter(self):
+        return self.shown(rows(self.m))
+
+    do_cursor = do_iter
+
+    def one(self, entries):
+        """The first of some entries, or that there is none."""
+        return self.entry(entries[0]) if entries else 'none'
+
+    def do_take(self):
+        answers = self.do_iter()
+        self.m.clear()
+        return answers
+
+    def do_clear(self):
+        self.m.clear()
+        return []
+
+    def do_len(self):
+        return [str(len(self.m))]
+
+    def do_empty(self):
+        return [truth(not self.m)]
+
+    def do_itself(self):
         return ['true']
-    if call not in ('merge', 'load', 'same'):
-        return None
-    pairs = list(zip(words[::2], map(int, words[1::2])))
-    if call == 'same':
-        return [truth(rows(m) == rows(dict(pairs)))]
-    if call == 'load':
-        return load_answers(m, pairs, row)
-    shared = sum(key in m for key in dict(pairs))
-    for key, value in dict(pairs).items():
-        m[key] = max(m.get(key, 0), value)
-    return [str(shared), *map(row, rows(m))]
+
+    def do_contains(self, *words):
+        return [truth(word in self.m) for word in words]
+
+    def do_range(self, start, *ends):
+        return self.shown(e for e in rows(self.m) if start <= e[0] and all(e[0] < end for end in ends))
+
+    do_cursor_range = do_range
+
+    def do_ends(self):
+        return [self.one(rows(self.m)), self.one(rows(self.m)[::-1])]
+
+    def do_beside(self, *words):
+        entries = rows(self.m)
+        return [answer for key in words for answer in (self.one([e for e in entries[::-1] if e[0] < key]),
+                                                       self.one([e for e in entries if e[0] > key]))]
+
+    def do_count(self, *words):
+        return [str(len(under(self.m, prefix))) for prefix in words]
+
+    def folded(self, entries):
+        """A number that tells in which order the values are met, or of a set the lengths of its elements."""
+        number = 0
+        for entry in entries:
+            number = (number * 31 + self.weight(*entry)) % 2 ** 64
+        return str(number)
+
+    def do_fold(self, *words):
+        return [self.folded(under(self.m, prefix)) for prefix in words]
+
+    def do_under(self, *words):
+        return self.shown(e for prefix in words for e in under(self.m, prefix))
+
+    do_cursor_prefix = do_under
+
+    def do_reach(self, *words):
+        return [str(max((common(key, k, self.kind) for k in self.m), default=0)) for key in words]
+
+    def along(self, key):
+        return [e for e in rows(self.m) if key.startswith(e[0])]
+
+    def do_longest(self, *words):
+        return [self.one(self.along(key)[::-1]) for key in words]
+
+    def parted(self, prefix):
+        """The entries under a prefix, and the others."""
+        taken = dict(under(self.m, prefix))
+        return taken, {k: v for k, v in self.m.items() if k not in taken}
+
+    def do_split(self, prefix):
+        taken, left = self.parted(prefix)
+        self.become(left)
+        return [*self.shown(rows(taken)), 'and', *self.shown(rows(left))]
+
+    def do_split_off(self, prefix):
+        taken, left = self.parted(prefix)
+        self.become(taken)
+        return [*self.shown(rows(taken)), 'and', *self.shown(rows(left))]
+
+    def do_clone(self):
+        return [*self.do_iter(), 'and', *self.do_iter()]
+
+    do_twin = do_len
+
+    def do_part(self, prefix):
+        taken, left = self.parted(prefix)
+        self.become(taken)
+        return [str(len(taken)), str(len(left))]
+
+    def do_cut(self, prefix):
+        taken, left = self.parted(prefix)
+        self.become(left)
+        return [str(len(taken))]
+
+    def popped(self, entries):
+        for key, _ in entries[:1]:
+            del self.m[key]
+        return [self.one(entries)]
+
+    def do_pop_first(self):
+        return self.popped(rows(self.m))
+
+    def do_pop_last(self):
+        return self.popped(rows(self.m)[::-1])
+
+    def do_fronts(self, *words):
+        for key in words:
+            self.m.update((key[:n], n) for n in range(1, len(key) + 1) if is_valid(key[:n], self.kind))
+        return []
+
+    def do_extend(self, *words):
+        pairs = self.pairs(words)
+        self.m.update(pairs)
+        return [str(len(pairs)), *self.do_iter()]
+
+    def do_from_iter(self, *words):
+        self.become(self.pairs(words))
+        return self.do_iter()
+
+    def do_load(self, *words):
+        pairs = self.pairs(words)
+        found = loaded(self.m, pairs)
+        self.m.update(found)
+        taken = [str(len(found))] if len(found) == len(pairs) else [str(len(found) + 1), OUT_OF_ORDER]
+        return [*taken, *self.do_iter()]
+
+    def do_retain(self, least):
+        count, kept = len(self.m), [e for e in rows(self.m) if self.weight(*e) >= int(least)]
+        self.become(kept)
+        return [str(count), *self.do_iter()]
+
+    def do_same(self, *words):
+        return [truth(rows(self.m) == rows(dict(self.pairs(words))))]
+
+    # -- encodings
+
+    def tree(self, width):
+        """The tree bytes, or None where they are too deep, and what is answered then."""
+        tree = tree_bytes(self.m, self.kind, width)
+        return tree, ['tree deeper than level %d' % (256 ** width - 1)]
+
+    def do_tree(self, width=NARROW):
+        tree, fault = self.tree(width)
+        return fault if tree is None else [written(tree)]
+
+    def do_tree_wide(self):
+        return self.do_tree(WIDE)
+
+    def do_size(self, width=NARROW):
+        """The numbers of bytes and of records, and the deepest level."""
+        tree, fault = self.tree(width)
+        if tree is None:
+            return fault
+        at, count, deepest = 0, 0, 0
+        while at < len(tree):
+            deepest = max(deepest, int.from_bytes(tree[at + 2:at + 2 + width], 'big'))
+            at, count = at + 2 + width + tree[at + 1], count + 1
+        return [str(len(tree)), str(count), str(deepest)]
+
+    def do_size_wide(self):
+        return self.do_size(WIDE)
+
+    def do_json(self):
+        tree, fault = self.tree(NARROW)
+        values = [self.json_value(value) for _, value in rows(self.m)]
+        return fault if tree is None else [compact([list(tree), values]), written(tree), compact([[], values])]
+
+    def do_reload(self, width=NARROW):
+        tree, fault = self.tree(width)
+        return fault if tree is None else self.do_len()
+
+    def do_reload_wide(self):
+        return self.do_reload(WIDE)
+
+    def do_open(self, tree, count, width=NARROW):
+        keys, fault = read_tree(tree, int(count), self.kind, width)
+        if fault:
+            return [fault]
+        self.become((key, n) for n, key in enumerate(keys, 1))
+        return self.do_len()
+
+    def do_open_wide(self, tree, count):
+        return self.do_open(tree, count, WIDE)
+
+    def do_read(self, tree, *words, width=NARROW):
+        values = self.read_values(words)
+        keys, fault = read_tree(tree, len(values), self.kind, width)
+        if fault:
+            return [fault]
+        self.become(zip(keys, values))
+        return self.do_iter()
+
+    def do_read_wide(self, *words):
+        return self.do_read(*words, width=WIDE)
+
+    def do_debug(self, is_wide=False):
+        if self.kind == 'units':
+            return ['unknown']
+        items = []
+        for key, value in rows(self.m):
+            text = ('"%s"' % ''.join(map(debug_character, key.decode())) if self.kind == 'text'
+                    else braces('[]', list(map(str, key)), is_wide))
+            items.append(self.debug_entry(text, value))
+        return [braces('{}', items, is_wide)]
+
+    def do_wide(self):
+        return self.do_debug(True)
 
 
-def whole_answers(m, call, words, shown_entry=row):
-    """The answers to a call that makes a part or the whole anew, or None for another call."""
-    if call not in ('split', 'split_off', 'clone'):
-        return None
-    prefix = b'' if call == 'clone' else words[0]
-    made = {k: v for k, v in m.items() if k.startswith(prefix)}
-    left = dict(m) if call == 'clone' else {k: v for k, v in m.items() if k not in made}
-    m.clear()
-    m.update(left if call == 'split' else made)
-    return [*map(shown_entry, rows(made)), 'and', *map(shown_entry, rows(left))]
+class Map(Whole):
+    """A map."""
+    entry = staticmethod(row)
 
+    def pairs(self, words):
+        return [(key, int(value)) for key, value in zip(words[::2], words[1::2]) if is_valid(key, self.kind)]
 
-def prefix_answers(m, kind, call, words):
-    """The answers to a call about prefixes of keys, or None for another call."""
-    if call == 'reach':
-        return [str(max((common(key, k, kind) for k in m), default=0)) for key in words]
-    if call not in ('longest', 'along', 'along_values', 'along_owned', 'under', 'cursor_prefix'):
-        return None
-    if call in ('under', 'cursor_prefix'):
-        return [row(e) for e in rows(m) if e[0].startswith(words[0])]
-    along = [[e for e in rows(m) if key.startswith(e[0])] for key in words]
-    if call == 'longest':
-        return [row(max(es, key=lambda e: len(e[0]))) if es else 'none' for es in along]
-    if call == 'along':
-        return [row(e) for e in along[0]]
-    return [str(value) for _, value in along[0]]
+    def weight(self, _, value):
+        return value
 
+    def json_value(self, value):
+        return value
 
-def items(key, kind):
-    """The bytes of a key, or the characters of a text."""
-    return key.decode() if kind == 'text' else key
+    def read_values(self, words):
+        return list(map(int, words))
 
+    def debug_entry(self, text, value):
+        return '%s: %d' % (text, value)
 
-def edits(one, two):
-    """How many items at the least are inserted, deleted or replaced to make two of one."""
-    before = list(range(len(two) + 1))
-    for i, x in enumerate(one):
-        here = [i + 1]
-        for j, y in enumerate(two):
-            here.append(min(before[j] + (x != y), before[j + 1] + 1, here[j] + 1))
-        before = here
-    return before[-1]
+    def do_insert(self, *words):
+        answers = []
+        for key, value in self.pairs(words):
+            answers.append(shown(self.m.get(key)))
+            self.m[key] = value
+        return answers
 
+    def do_remove(self, *words):
+        return [shown(self.m.pop(k, None)) for k in words]
 
-def near_answers(m, kind, call, words):
-    """The entries that are at most so many edits from a key, or None for another call."""
-    if call != 'within':
-        return None
-    sought, limit = items(words[0], kind), int(words[1])
-    return [row(e) for e in rows(m) if edits(items(e[0], kind), sought) <= limit]
+    def do_get(self, *words):
+        return [shown(self.m.get(k)) for k in words]
 
+    def do_keys(self):
+        return [written(k) for k, _ in rows(self.m)]
 
-def key_answers(kind, call, words):
-    """The answers to a call of the key traits."""
-    if call == 'floor':
-        return [str(floor_boundary(b, kind)) for b in words]
-    if call == 'copy':
-        return [written(b) if is_valid(b, kind) else 'none' for b in words]
-    if call == 'common':
-        n = common(words[0], words[1], kind)
-        rest = words[0][n:]
-        return [str(n), written(rest), written(rest), truth(not rest)]
-    if call == 'first':
-        a, b = (first_item(x, kind) if x else b'' for x in words)
+    def do_values(self):
+        return [str(v) for _, v in rows(self.m)]
+
+    def do_raise(self, more):
+        before = rows(self.m)
+        self.m.update((key, min(value + int(more), MAX_VALUE)) for key, value in before)
+        return self.shown(before)
+
+    def do_fill(self, *words):
+        answers = []
+        for key, value in self.pairs(words):
+            answers.append(truth(key not in self.m))
+            self.m.setdefault(key, value)
+        return answers
+
+    def do_update(self, *words):
+        answers = []
+        for key, value in self.pairs(words):
+            answers.append(shown(self.m.get(key)))
+            if key in self.m:
+                self.m[key] = value
+        return answers
+
+    def do_get_or_insert(self, *words):
+        answers = []
+        for key, value in self.pairs(words):
+            answers.append(str(self.m.get(key, 0)))
+            self.m[key] = value
+        return answers
+
+    def do_lend(self, *words):
+        answers = []
+        for key, value in self.pairs(words):
+            fronts = self.along(key)
+            answers.append(self.one(fronts[::-1]))
+            self.m.update((front, value) for front, _ in fronts[-1:])
+        return answers
+
+    do_lend_with = do_lend
+
+    def do_kept(self, key):
+        keys = [element(e) for e in self.along(key)] or ['none']
+        self.m.clear()
+        return [keys[-1], keys[0]]
+
+    def do_begin(self):
+        if not self.m:
+            return ['none'] * 5
+        key, value = rows(self.m)[0]
+        first = row((key, value))
+        return [first, written(key), str(value), first, first]
+
+    def do_merge(self, *words):
+        pairs = dict(self.pairs(words))
+        shared = sum(key in self.m for key in pairs)
+        for key, value in pairs.items():
+            self.m[key] = max(self.m.get(key, 0), value)
+        return [str(shared), *self.do_iter()]
+
+    def do_along(self, key):
+        return self.shown(self.along(key))
+
+    def do_along_values(self, key):
+        return [str(value) for _, value in self.along(key)]
+
+    do_along_owned = do_along_values
+
+    def do_within(self, key, limit):
+        items = (lambda k: k.decode() if self.kind == 'text' else
+                 [k[n:n + 2] for n in range(0, len(k), 2)] if self.kind == 'units' else k)
+        return self.shown(e for e in rows(self.m) if edits(items(e[0]), items(key)) <= int(limit))
+
+    # -- the key traits
+
+    def do_floor(self, *words):
+        return [str(floor_boundary(b, self.kind)) for b in words]
+
+    def do_copy(self, *words):
+        return [written(b) if is_valid(b, self.kind) else 'none' for b in words]
+
+    def do_common(self, key, b):
+        n = common(key, b, self.kind)
+        return [str(n), written(key[n:]), written(key[n:]), truth(n == len(key))]
+
+    def do_first(self, *words):
+        if not all(is_valid(word, self.kind) for word in words):
+            return ['none']
+        a, b = (first_item(word, self.kind) for word in words)
         return ['less' if a < b else 'greater' if b < a else 'equal']
-    if call == 'halves':
-        key, n = words[0], int(words[1])
-        if n > len(key) or not is_valid(key[:n], kind):
+
+    def do_halves(self, key, n):
+        n = int(n)
+        if n > len(key) or not is_valid(key[:n], self.kind):
             return ['none']
         return [written(key[:n]), written(key[n:])]
-    return ['unknown']
 
 
-def debug_character(c):
-    """A character in a Debug text."""
-    if c in ESCAPES:
-        return ESCAPES[c]
-    is_printed = c == ' ' or unicodedata.category(c)[0] not in 'CZ'
-    return c if is_printed else '\\u{%x}' % ord(c)
+class Set(Whole):
+    """A set, as a map whose values tell nothing."""
+    entry = staticmethod(element)
 
+    def pairs(self, words):
+        return [(word, 0) for word in words if is_valid(word, self.kind)]
 
-def debug_key(key, kind, is_wide):
-    """The Debug text of a key, of bytes or of a text."""
-    if kind == 'text':
-        return '"%s"' % ''.join(map(debug_character, key.decode()))
-    return braces('[]', list(map(str, key)), is_wide)
+    def weight(self, key, _):
+        return len(key)
 
-
-def braces(pair, items, is_wide):
-    """The Debug text of items between braces, in one line or in a line for each."""
-    if not is_wide or not items:
-        return pair[0] + ', '.join(items) + pair[1]
-    return pair[0] + '\n' + ''.join('    %s,\n' % item.replace('\n', '\n    ') for item in items) + pair[1]
-
-
-def tree_answers(m, kind, call, words):
-    """The tree bytes of a map or of a set, or what is read from some; None for another call."""
-    keys_kind, is_set = kind.split('_')[0], kind.endswith('_set')
-    verb, _, how = call.partition('_')
-    if verb not in ('tree', 'read') or how not in ('', 'wide'):
+    def json_value(self, _):
         return None
-    width = WIDE if how else NARROW
-    if verb == 'tree':
-        return [written(tree_bytes(list(m), keys_kind, width))]
-    values = [0] * int(words[1]) if is_set else list(map(int, words[1:]))
-    keys, fault = read(words[0], len(values), keys_kind, width)
-    if fault:
-        return [fault]
-    m.clear()
-    m.update(zip(keys, values))
-    return list(map(element if is_set else row, rows(m)))
 
+    def read_values(self, words):
+        return [0] * int(words[0])
 
-def debug_answers(m, kind, call):
-    """The Debug text of a map or of a set, or None for another call."""
-    if call not in ('debug', 'wide'):
-        return None
-    is_wide = call == 'wide'
-    items = []
-    for key, value in rows(m):
-        text = debug_key(key, kind.split('_')[0], is_wide)
-        items.append(text if kind.endswith('_set') else '%s: %d' % (text, value))
-    return [braces('{}', items, is_wide)]
+    def debug_entry(self, text, _):
+        return text
 
-
-def element(entry):
-    """An element of a set, which is a dictionary too."""
-    return written(entry[0])
-
-
-def listed(m):
-    """The elements of a set."""
-    return list(map(element, rows(m)))
-
-
-def changed_set(m, call, words):
-    """The answers to a call that changes a set element by element, or None for another call."""
-    if call in ('extend', 'from_iter'):
-        taken = [str(len(words))] if call == 'extend' else []
-        if call == 'from_iter':
-            m.clear()
-        m.update((word, 0) for word in words)
-        return [*taken, *listed(m)]
-    answers = []
-    if call == 'insert':
-        for word in words:
-            answers.append(truth(word not in m))
-            m[word] = 0
+    def do_insert(self, *words):
+        answers = []
+        for word, _ in self.pairs(words):
+            answers.append(truth(word not in self.m))
+            self.m[word] = 0
         return answers
-    if call == 'remove':
-        return [truth(m.pop(word, None) is not None) for word in words]
-    if call in ('take', 'clear'):
-        answers = listed(m) if call == 'take' else []
-        m.clear()
-        return answers
-    return None
+
+    def do_remove(self, *words):
+        return [truth(self.m.pop(word, None) is not None) for word in words]
+
+    def do_union(self, *words):
+        return list(map(written, sorted({*self.m, *words})))
+
+    def do_intersection(self, *words):
+        return list(map(written, sorted({*self.m} & {*words})))
+
+    def do_difference(self, *words):
+        return list(map(written, sorted({*self.m} - {*words})))
+
+    def do_subset(self, *words):
+        return [truth({*self.m} <= {*words})]
+
+    def do_disjoint(self, *words):
+        return [truth(not {*self.m} & {*words})]
+
+    def unknown(self, *words):
+        return ['unknown' for _ in words]
 
 
-def two_sets(m, call, words):
-    """The answers to a call of a set with another one, or None for another call."""
-    other = set(words)
-    made = {'union': other.union(m), 'intersection': other.intersection(m), 'difference': set(m) - other}
-    told = {'subset': set(m) <= other, 'disjoint': not other.intersection(m), 'same': set(m) == other}
-    if call in made:
-        return list(map(written, sorted(made[call])))
-    return [truth(told[call])] if call in told else None
+class Router(Map):
+    """A router. Its routes are not listed: their number stands for them."""
+
+    def do_iter(self):
+        return self.do_len()
+
+    do_add = Map.do_insert
+    do_route = do_route_all = Map.do_longest
+
+    def do_drop_prefix(self, *words):
+        return [self.do_cut(prefix)[0] for prefix in words]
 
 
-def sifted_set(m, call, words):
-    """The answers to a call that keeps some elements or loads some in order, or None for another call."""
-    if call == 'retain':
-        count, kept = len(m), [key for key in m if len(key) >= int(words[0])]
-        m.clear()
-        m.update((key, 0) for key in kept)
-        return [str(count), *listed(m)]
-    return load_answers(m, [(word, 0) for word in words], element) if call == 'load' else None
+SHAPES = {'': Map, 'set': Set, 'router': Router}
 
 
-def asked_set(m, kind, call, words):
-    """The answers to a question about a set."""
-    if call in ('len', 'empty', 'itself'):
-        return {'len': [str(len(m))], 'empty': [truth(not m)], 'itself': ['true']}[call]
-    if call in ('iter', 'cursor'):
-        return listed(m)
-    if call == 'contains':
-        return [truth(word in m) for word in words]
-    if call == 'reach':
-        return [str(max((common(key, k, kind) for k in m), default=0)) for key in words]
-    if call == 'longest':
-        along = [[k for k in m if key.startswith(k)] for key in words]
-        return [written(max(found, key=len)) if found else 'none' for found in along]
-    if call in ('under', 'cursor_prefix'):
-        return [element(e) for prefix in words for e in rows(m) if e[0].startswith(prefix)]
-    return ['unknown' for _ in words]
-
-
-def set_answers(m, kind, call, words):
-    """The answers to a call on a set, which it changes."""
-    found = changed_set(m, call, words)
-    for tried in (sifted_set, two_sets):
-        if found is None:
-            found = tried(m, call, words)
-    for tried in (whole_answers, order_answers, taking_answers):
-        if found is None:
-            found = tried(m, call, words, element)
-    if found is None:
-        found = tree_answers(m, kind, call, words)
-    if found is None:
-        found = debug_answers(m, kind, call)
-    return asked_set(m, kind.split('_')[0], call, words) if found is None else found
+def model(kind, m):
+    """What a kind of lines is about, over a dictionary."""
+    keys, _, shape = kind.partition('_')
+    return SHAPES[shape](keys, m)
 
 
 def answers(m, kind, call, words):
-    """The answers to a call on a map or on a set, which it changes."""
-    if kind.endswith('_set'):
-        return set_answers(m, kind, call, words)
-    found = map_answers(m, call, words)
-    for tried in (whole_answers, order_answers, taking_answers, made_answers, merging_answers):
-        if found is None:
-            found = tried(m, call, words)
-    if found is None:
-        found = tree_answers(m, kind, call, words)
-    if found is None:
-        found = debug_answers(m, kind, call)
-    if found is None:
-        found = prefix_answers(m, kind, call, words)
-    if found is None:
-        found = near_answers(m, kind, call, words)
-    return key_answers(kind, call, words) if found is None else found
+    """The answers to a call of a kind over a dictionary, which it changes."""
+    return model(kind, m).answer(call, words)
 
 
 def calls(lines, kind):
@@ -427,15 +479,3 @@ def calls(lines, kind):
         its_kind, *rest = line.split(' ')
         if its_kind == kind and rest:
             yield line, rest[0], [argument(word) for word in rest[1:]]
-
-
-def main():
-    lines = sys.stdin.read().split('\n')[:-1]
-    for kind in KINDS:
-        m = {}
-        for line, call, words in calls(lines, kind):
-            print(line + ': ' + ' '.join(answers(m, kind, call, words)))
-
-
-if __name__ == '__main__':
-    main()

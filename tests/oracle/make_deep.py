@@ -1,4 +1,4 @@
-"""Makes the inputs that are deep and wide, and what `ptree` must answer to them.
+"""Makes the inputs that are deep and wide, and what `ptree` and `test_scripts` must answer to them.
 
     python3 -B -m tests.oracle.make_deep FOLDER
 
@@ -13,8 +13,9 @@ Each NAME.out is the answer by model.py.
 """
 import os
 import sys
-from tests.oracle.model import answer
 from tests.oracle.make_cases import write
+from tests.oracle.model import answer
+from tests.oracle.words import word, written
 
 NESTED = [b'a' * n for n in range(1, 8001)]
 CHARACTERS = [chr(0x4E00 + n).encode() for n in range(30000)]
@@ -39,6 +40,45 @@ def script(keys, removals):
     again = [*inserts, b'len', *two_maps(keys), b'wire']
     lines = [*inserts, *asked, *removes, b'len', b'list', *again]
     return b''.join(line + b'\n' for line in lines)
+
+
+def chain(flags, last):
+    """Tree bytes of a root and a record of one byte for each level that there is, all but the last with the same flags."""
+    levels = [bytes([flags if level < 65535 else last, 1, *divmod(level, 256), 97]) for level in range(1, 65536)]
+    return bytes([12, 0, 0, 0]) + b''.join(levels)
+
+
+def lines():
+    """Lines for `test_scripts` about chains, and their answers: lone children are joined to one key, and keys of each
+    length are as deep as can be written, and one deeper."""
+    below, filled = word(chain(15, 15)), word(chain(15, 3))
+    too_deep = 'tree deeper than level 65535'
+    yield 'bytes read %s 9' % word(chain(12, 3)), written(b'a' * 65535) + '=9'
+    yield 'bytes size', '66567 258 257'
+    yield 'bytes get a*65535 a*65534', '9 none'
+    yield 'bytes clear', ''
+    yield 'bytes open %s 65535' % below, 'record cut short at 327679'
+    yield 'bytes open %s+%%03%%01%%00%%00a 65536' % below, 'wrong level at 327679'
+    yield 'bytes open %s 65535' % filled, '65535'
+    yield 'bytes get a*1 a*65535 a*65536', '1 65535 none'
+    yield 'bytes size', '327679 65536 65535'
+    yield 'bytes reload', '65535'
+    yield 'bytes longest a*70000', written(b'a' * 65535) + '=65535'
+    yield 'bytes count a*40000 b', '25536 0'
+    yield 'bytes insert a*65536 65536', 'none'
+    yield 'bytes tree', too_deep
+    yield 'bytes reload', too_deep
+    yield 'bytes size_wide', '458758 65537 65536'
+    yield 'bytes reload_wide', '65536'
+    yield 'bytes twin', '65536'
+    yield 'bytes part a*1000', '64537 999'
+    yield 'bytes get a*1000 a*65536 a*999', '1000 65536 none'
+    yield 'bytes len', '64537'
+    yield 'bytes clear', ''
+    yield 'bytes_set open %s 65535' % filled, '65535'
+    yield 'bytes_set size', '327679 65536 65535'
+    yield 'bytes_set reload_wide', '65535'
+    yield 'bytes_set part a*65535', '1 65534'
 
 
 def main(folder):

@@ -1,11 +1,8 @@
-"""Makes calls over labels of each length that matters, which `test_scripts` reads.
-
-    python3 -B -m tests.oracle.make_labels > FILE
+"""Calls over labels of each length that matters, as lines for `test_scripts`.
 
 A label of at most 30 bytes stands in its node, and a longer one in memory of its own. Labels of 1
 to 33 bytes, and of about 255, are linked before, behind and below others, cut, joined again, looked
-up, walked over, along and under, copied, split by prefixes, and removed. What must be answered is
-what answer_lines.py says.
+up, walked over, along and under, copied, split by prefixes, and removed.
 """
 LENGTHS = [*range(1, 34), *range(254, 258)]
 # a front or a rest of so many bytes is cut off a label of about 255
@@ -125,13 +122,23 @@ def calls(kind, length):
     return answers
 
 
-def main():
+def long_texts():
+    """Texts of one character, of each number of characters that has about one or two labels."""
+    for item in 'aßあ🌏':
+        size = len(item.encode())
+        for length in range(252, 514):
+            text = '%s*%d' % (item, length // size)
+            yield 'insert %s %d' % (text, length // size * size)
+            yield 'get %s %s+ん' % (text, text)
+        yield 'len'
+
+
+def lines():
     for kind in 'bytes', 'text':
         for length in LENGTHS:
             for call in calls(kind, length):
-                print(kind, call)
-            print(kind, 'len')
-
-
-if __name__ == '__main__':
-    main()
+                yield '%s %s' % (kind, call)
+            yield kind + ' len'
+    yield 'text clear'
+    for call in long_texts():
+        yield 'text ' + call

@@ -12,10 +12,10 @@ the plain models, model.py and answer_lines.py.
 """
 import os
 import sys
-from tests.oracle.answer_lines import answers, calls, written
-from tests.oracle.answer_wire import tree_bytes
+from tests.oracle.answer_lines import answers, calls
 from tests.oracle.make_cases import write
-from tests.oracle.model import answer
+from tests.oracle.model import answer, tree_bytes
+from tests.oracle.words import written
 
 COUNT = 200000
 UNDER = 150000

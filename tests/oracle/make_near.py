@@ -1,6 +1,4 @@
-"""Makes searches for keys that are few edits from another one, which `test_scripts` reads.
-
-    python3 -B -m tests.oracle.make_near > FILE
+"""Searches for keys that are few edits from another one, as lines for `test_scripts`.
 
 Maps of random keys over three items, among them keys that begin each other and the empty one, change
 between the searches. Most keys that are sought are a stored one with some edits. What must be
@@ -9,7 +7,7 @@ answered is what answer_lines.py says, which measures each key of the map.
 import random
 
 ROUNDS = 60
-ITEMS = {'bytes': ['a', 'b', '%FF'], 'text': ['a', '%C3%A9', '%E3%81%82']}
+ITEMS = {'bytes': ['a', 'b', '%FF'], 'text': ['a', '%C3%A9', '%E3%81%82'], 'units': ['%00a', '%00b', '%01a']}
 
 
 def key(of, kind, most):
@@ -52,12 +50,8 @@ def calls(of, kind):
         stored = [k for k in stored if k not in gone]
 
 
-def main():
+def lines():
     of = random.Random(7)
     for kind in ITEMS:
         for call in calls(of, kind):
-            print(kind, call)
-
-
-if __name__ == '__main__':
-    main()
+            yield '%s %s' % (kind, call)

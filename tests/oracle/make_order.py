@@ -1,6 +1,4 @@
-"""Makes calls about the order of keys, over two maps and over two sets, which `test_scripts` reads.
-
-    python3 -B -m tests.oracle.make_order > FILE
+"""Calls about the order of keys, over maps and over sets, as lines for `test_scripts`.
 
 The maps and sets have random keys over three items, among them keys that begin each other and the empty
 one. They change between the questions: entries are taken at the ends and by a prefix, merged, kept in
@@ -9,7 +7,7 @@ part and loaded in order. What must be answered is what answer_lines.py says.
 import random
 
 ROUNDS = 50
-ITEMS = {'bytes': ['a', 'b', '%FF'], 'text': ['a', '%C3%A9', '%E3%81%82']}
+ITEMS = {'bytes': ['a', 'b', '%FF'], 'text': ['a', '%C3%A9', '%E3%81%82'], 'units': ['%00a', '%00b', '%01a']}
 MOST_ITEMS = 5
 
 
@@ -78,18 +76,14 @@ def made_in_order(of, kind):
     yield in_order(words(of, kind, 30)) + words(of, kind, 8)
 
 
-def main():
+def lines():
     of = random.Random(11)
     for kind in ITEMS:
         for call in map_calls(of, kind):
-            print(kind, call)
+            yield '%s %s' % (kind, call)
         for call in set_calls(of, kind):
-            print(kind + '_set', call)
+            yield '%s_set %s' % (kind, call)
     for kind in ITEMS:
         for made in made_in_order(of, kind):
-            print(kind, 'from_iter ' + numbered(of, made))
-            print(kind + '_set', 'from_iter ' + ' '.join(made))
-
-
-if __name__ == '__main__':
-    main()
+            yield '%s from_iter %s' % (kind, numbered(of, made))
+            yield '%s_set from_iter %s' % (kind, ' '.join(made))

@@ -1,6 +1,6 @@
 """Calls of maps and sets of which one may be refused, as scripts of lines for `test_scripts`."""
-from tests.oracle.answer_lines import written
 from tests.oracle.model import NARROW, WIDE, tree_bytes
+from tests.oracle.words import argument, written
 
 
 def texts(keys):
@@ -237,7 +237,8 @@ MAP_SCRIPTS = [
     [line for word in texts(PARTING) for line in ('from_iter ' + pairs(SPLIT), 'split ' + word)],
     ['from_iter ' + pairs(SPLIT), 'split_off ' + 'x' * 20, 'iter', 'insert * 1', 'split_off *',
      'clone', 'clear', 'clone'],
-    ['from_iter ' + pairs(COPIED), 'clone', 'clone', 'remove foo', 'clone', 'iter'],
+    ['from_iter ' + pairs(COPIED), 'clone', 'clone', 'remove foo', 'clone', 'iter', 'reload', 'reload_wide', 'twin',
+     'part foo', 'size', 'iter'],
     ['extend ' + pairs(PUT), 'iter', 'extend x 20 foobar 21',
      'extend x 30 xa 31 xb 32 y 33 xaz 34 い 35', 'iter', 'from_iter ' + pairs(PUT[3:]), 'iter'],
     ['extend ' + pairs(WRITTEN), 'debug', 'debug'],
@@ -298,8 +299,41 @@ SET_SCRIPTS = [
     ['from_iter ' + ' '.join(NESTED), 'count a', 'len', 'count aa * aaaa'],
 ]
 
+# Routes, one longer than what a node keeps, and keys that are routed.
+ROUTES = ['/', '/api/', '/api/users', '/long' * 8]
+ROUTED = elements(['/api/users/7', '/api/u', '/x', 'api', '/long' * 9])
+ROUTER_SCRIPTS = [[
+    *each('add', numbered(ROUTES)), 'route ' + ROUTED, 'route_all ' + ROUTED, 'route_all',
+    *each('drop_prefix', texts(['/zzz', '/lo', '/api/'])), 'route ' + ROUTED, 'len', 'drop_prefix *', 'route ' + ROUTED,
+]]
+
+# The keys of some scripts are written with a unit for each byte, and other words are numbers.
+PAIRED = 'insert', 'extend', 'from_iter', 'merge', 'load', 'same', 'fill', 'update', 'get_or_insert'
+NUMBERED = 'raise', 'retain'
+# What these ask of bytes or of texts is not so of units.
+NOT_OF_UNITS = 'read', 'read_wide', 'debug', 'copy', 'fold'
+
+
+def unit(key):
+    """A word of a key of bytes as one of units."""
+    return written(b''.join(b'\0' + bytes([c]) for c in argument(key))) or '*'
+
+
+def in_units(script):
+    """A script of maps over units."""
+    lines = []
+    for call, *words in [line.split(' ') for line in script]:
+        if call not in NOT_OF_UNITS:
+            step = 2 if call in PAIRED else 1
+            lines.append(' '.join([call, *(unit(word) if n % step == 0 and call not in NUMBERED else word
+                                           for n, word in enumerate(words))]))
+    return lines
+
+
 # The kinds of keys, and the scripts for each.
 SCRIPTS = {
     'maps': (('bytes', 'text'), MAP_SCRIPTS),
     'sets': (('bytes_set', 'text_set'), SET_SCRIPTS),
+    'units': (('units',), [in_units(script) for script in (MAP_SCRIPTS[2], MAP_SCRIPTS[12], changed_map(NAMED[0]))]),
+    'routers': (('bytes_router', 'text_router', 'units_router'), ROUTER_SCRIPTS),
 }

@@ -12,8 +12,8 @@ is left. With no request refused the answers are the model's own.
 """
 import re
 from typing import NamedTuple
-from tests.oracle.answer_lines import OUT_OF_ORDER, answers, calls, element, folded, loaded, row
-from tests.oracle.model import is_valid, joins, rows
+from tests.oracle.answer_lines import OUT_OF_ORDER, answers, calls, loaded, model
+from tests.oracle.model import is_valid, joins, rows, under
 from tests.oracle.refusal_scripts import SCRIPTS
 from tests.support import in_turn
 
@@ -48,14 +48,12 @@ def lists(call, answered):
 
 def put_in(kind, words):
     """The pairs that a call inserts. An element of a set has 0 behind it."""
-    if kind.endswith('_set'):
-        return [(word, 0) for word in words]
-    return [(key, int(value)) for key, value in zip(words[::2], words[1::2])]
+    return model(kind, {}).pairs(words)
 
 
 def shown(kind, m):
-    """How the entries of a map or the elements of a set are written."""
-    return list(map(element if kind.endswith('_set') else row, rows(m)))
+    """How what a map, a set or a router has is written."""
+    return model(kind, m).do_iter()
 
 
 # ---- Calls that may leave a part of what they do ----------------------------
@@ -64,11 +62,11 @@ def shown(kind, m):
 # anew, its last answers stand behind them.
 
 
-def put_in_part(m, kind, call, words):
-    """A call that puts pairs in is refused at one of them."""
+def put_in_part(m, kind, call, words, in_c):
+    """A call that puts pairs in is refused at one of them. A map in C asks for memory of its own with its first one."""
     made, found = {} if call == 'from_iter' else dict(m), []
     for taken, (key, value) in enumerate(put_in(kind, words), 1):
-        if key and key not in made:
+        if (key or in_c and not made) and key not in made:
             before = [str(taken)] if call == 'extend' else []
             found.append((before, m if call == 'from_iter' else dict(made)))
         made[key] = value
@@ -115,19 +113,19 @@ def retained_in_part(m, kind, words):
     return found
 
 
-def left_behind(m, kind, call, words, answered):
+def left_behind(m, kind, call, words, answered, in_c):
     """What a call may have answered where it is refused, and the map then."""
     if call == 'take':
         return [(answered[:n], {}) for n in range(len(answered))]
-    if call in ('insert', 'extend', 'from_iter'):
-        return put_in_part(m, kind, call, words)
+    if call in ('insert', 'add', 'extend', 'from_iter'):
+        return put_in_part(m, kind, call, words, in_c)
     if call == 'load':
         return loaded_in_part(m, kind, words)
     if call == 'merge':
         return merged_in_part(m, kind, words)
     if call == 'retain':
         return retained_in_part(m, kind, words)
-    return [(before, m) for before in answered_before(m, kind, call, words, answered)]
+    return [(before, m) for before in answered_before(m, kind, call, words, answered, in_c)]
 
 
 # ---- Calls that leave the map as it was where they are refused --------------
@@ -137,10 +135,9 @@ def folded_in_part(m, kind, words, answered):
     """A closure was called at the first entries under a prefix alone."""
     found = []
     for n, prefix in enumerate(words):
-        under = [entry for entry in rows(m) if entry[0].startswith(prefix)]
-        for count in range(len(under)):
-            number = folded(kind.endswith('_set'), under[:count])
-            found.append([*answered[:n], str(number)])
+        entries = under(m, prefix)
+        for count in range(len(entries)):
+            found.append([*answered[:n], model(kind, m).folded(entries[:count])])
     return found
 
 
@@ -156,25 +153,30 @@ def is_due(m, kind, call, words, answered):
     """Whether a call that has answered nothing before may find no memory."""
     if call == 'remove':
         return joins(m, words[0], kind.split('_')[0])
-    if call in ('split', 'split_off', 'cut'):
+    if call == 'route_all':
+        return bool(words)
+    if call in ('split', 'split_off', 'cut', 'part', 'drop_prefix'):
         return words[0] != b'' and any(key.startswith(words[0]) for key in m)
-    if call in ('clone', 'itself'):
+    if call in ('clone', 'itself', 'twin'):
         return any(m)
     if call in ('pop_first', 'pop_last'):
         return bool(m)
-    if call in ('read', 'read_wide'):
-        return len(words[0]) > (6 if call == 'read_wide' else 4)
+    if call in ('read', 'read_wide', 'open', 'open_wide'):
+        return len(words[0]) > (6 if call.endswith('_wide') else 4)
     if call == 'fill':
         return answered == ['true']
     if call == 'get_or_insert':
         return words[0] != b'' and words[0] not in m
     if call == 'along_owned':
         return any(words) and is_valid(words[0], kind)
-    return call in ('tree', 'tree_wide')
+    return call in ('tree', 'tree_wide', 'size', 'size_wide', 'reload', 'reload_wide')
 
 
-def answered_before(m, kind, call, words, answered):
+def answered_before(m, kind, call, words, answered, in_c):
     """What such a call may have answered before it is refused."""
+    if in_c and call in ('cursor', 'cursor_prefix'):
+        # a cursor in C looks the entry ahead up
+        return [answered[:n] for n in range(len(answered) + 1)]
     if call in ('keys', 'values', 'under', 'cursor', 'cursor_prefix'):
         return [answered[:n] for n in range(len(answered))]
     if call in ('range', 'cursor_range'):
@@ -198,7 +200,7 @@ def answered_before(m, kind, call, words, answered):
 # ---- A run ------------------------------------------------------------------
 
 
-def refused(m, kind, call, words, answered):
+def refused(m, kind, call, words, answered, in_c):
     """The answers that a call may give of which a request is refused."""
     for first, last in lists(call, answered):
         for n in range(first, last):
@@ -207,7 +209,7 @@ def refused(m, kind, call, words, answered):
         # a cursor that writes goes on at the entry that was due
         for n in range(len(answered)):
             yield [*answered[:n], 'refused', *answered[n:]]
-    for before, left, *last in left_behind(m, kind, call, words, answered):
+    for before, left, *last in left_behind(m, kind, call, words, answered, in_c):
         again = last[0] if last else answers(dict(left), kind, call, words)
         yield [*before, 'refused', *shown(kind, left), 'again', *again]
 
@@ -230,7 +232,7 @@ def steps(lines, kind):
     return made
 
 
-def is_allowed(script, kind, output, is_refused):
+def is_allowed(script, kind, output, is_refused, in_c):
     """Whether the model allows an output of these steps, with a refusal in at most one line."""
     written_lines, refusals = output.decode().split('\n'), 0
     if len(written_lines) != len(script) + 1 or written_lines[-1]:
@@ -239,7 +241,7 @@ def is_allowed(script, kind, output, is_refused):
         if got == line + ':' + text_of(answered):
             continue
         refusals += 1
-        allowed = refused(before, kind, call, words, answered)
+        allowed = refused(before, kind, call, words, answered, in_c)
         if not is_refused or refusals > 1:
             return False
         if got not in [line + ':' + text_of(each) for each in allowed]:
@@ -256,24 +258,27 @@ def is_kept(script, seen):
     return any(kept.match(got) for got in seen)
 
 
-def check(program, name):
-    """Runs each script of maps or of sets, once for each kind of keys, until no request is refused."""
+def check(program, name, offered=None):
+    """Runs each script of a name, once for each kind of keys, until no request is refused: of a program in C the lines
+    that it offers."""
     kinds, scripts = SCRIPTS[name]
     for kind in kinds:
         for script in scripts:
-            check_script(program, kind, script)
+            lines = ['%s %s' % (kind, line) for line in script]
+            kept = [line for line in lines if offered is None or ' '.join(line.split(' ')[:2]) in offered]
+            seen = check_script(program, kind, kept, offered is not None)
+            assert seen or len(kept) < len(lines), 'no request of a call'
 
 
-def check_script(program, kind, script):
-    """Asserts what each run of a script writes, and that in some run a call is refused."""
-    lines = ['%s %s' % (kind, line) for line in script]
+def check_script(program, kind, lines, in_c):
+    """Asserts what each run of a script writes. The lines in some run of which a call is refused."""
     data, made, seen = ''.join(line + '\n' for line in lines).encode(), steps(lines, kind), []
     for at, ran in in_turn([program], data):
         told = '%s, request %d: %r' % (kind, at, ran._replace(stdout=ran.stdout[-2000:]))
         if ran.returncode == 0:
-            assert is_allowed(made, kind, ran.stdout, ran.is_refused) and ran.stderr == b'', told
+            assert is_allowed(made, kind, ran.stdout, ran.is_refused, in_c) and ran.stderr == b'', told
             seen += [line for line in ran.stdout.decode().split('\n') if ' refused' in line]
         else:
             assert ran.is_refused and not seen and ran.stdout == b'', told
-    assert is_kept(made, seen), 'nothing was kept of ' + lines[0]
-    assert seen, 'no request of a call'
+    assert not made or is_kept(made, seen), 'nothing was kept of ' + lines[0]
+    return seen

@@ -1,29 +1,11 @@
 //! How calls are written.
 //!
-//! In an argument `%` and two hexadecimal digits stand for a byte, and `*` and a number at its end
-//! say how often the rest is repeated, so that `*` alone is the empty key.
+//! An argument is parts with `+` between them. In a part `%` and two hexadecimal digits stand for a
+//! byte, and `*` and a number at its end say how often the rest is repeated, so that `*` alone is
+//! the empty key.
 
-use patricia_tree::BorrowedBytes;
 use std::alloc::{AllocError, Global};
 use std::str;
-
-/// A key that can be read from bytes.
-pub trait Readable<'a>: BorrowedBytes {
-    /// The key of these bytes, or `None` where they are no key.
-    fn read(bytes: &'a [u8]) -> Option<Self>;
-}
-
-impl<'a> Readable<'a> for &'a [u8] {
-    fn read(bytes: &'a [u8]) -> Option<&'a [u8]> {
-        Some(bytes)
-    }
-}
-
-impl<'a> Readable<'a> for &'a str {
-    fn read(bytes: &'a [u8]) -> Option<&'a str> {
-        str::from_utf8(bytes).ok()
-    }
-}
 
 // The value of a hexadecimal digit.
 fn digit(byte: u8) -> u8 {
@@ -53,12 +35,29 @@ fn unescaped(alloc: Global, text: &str) -> Result<Vec<u8>, AllocError> {
     Ok(bytes)
 }
 
-// The bytes that a word stands for.
-fn argument(alloc: Global, word: &str) -> Result<Vec<u8>, AllocError> {
+// The bytes that a part of a word stands for.
+fn part(alloc: Global, word: &str) -> Result<Vec<u8>, AllocError> {
     match word.split_once('*') {
         Some((text, times)) => unescaped(alloc, text)?.repeat(alloc, number(times.as_bytes())),
         None => unescaped(alloc, word),
     }
+}
+
+fn push_part(alloc: Global, bytes: &mut Vec<u8>, word: &str) -> Result<(), AllocError> {
+    let part = part(alloc, word)?;
+    bytes.extend_from_slice(&part)
+}
+
+// The bytes that a word stands for.
+fn argument(alloc: Global, word: &str) -> Result<Vec<u8>, AllocError> {
+    if !word.contains('+') {
+        return part(alloc, word);
+    }
+    let mut bytes = Vec::new(alloc);
+    for word in word.split('+') {
+        push_part(alloc, &mut bytes, word)?;
+    }
+    Ok(bytes)
 }
 
 fn arguments(alloc: Global, words: &[&str]) -> Result<Vec<Vec<u8>>, AllocError> {

@@ -1,7 +1,8 @@
 //! The functions of the key traits.
 
 use crate::answers::Answers;
-use crate::calls::{self, Readable};
+use crate::calls;
+use crate::kinds::Readable;
 use patricia_tree::{BorrowedBytes, Bytes};
 use std::alloc::{AllocError, Global};
 use std::cmp::Ordering;

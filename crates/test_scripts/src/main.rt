@@ -1,9 +1,9 @@
-//! Reads calls of maps and sets, a line each, and writes each line with its answers.
+//! Reads calls of maps, sets and routers, a line each, and writes each line with its answers.
 //!
 //! A line is words separated by spaces: the kind of keys, the call, and its arguments. The kinds
-//! are `bytes` and `text` for maps, and `bytes_set` and `text_set` for sets, in this order. The
-//! lines of each kind are called in their order, on one map or set, which is empty at first. Other
-//! lines are left out.
+//! are `bytes`, `text` and `units` for maps, the same with `_set` for sets and with `_router` for
+//! routers. The lines of each kind are called in their order, on one map, set or router, which is
+//! empty at first, and the kinds stand in this order. Other lines are left out.
 //!
 //! A call that finds no memory answers `refused` and what the map or the set then has, and behind
 //! `again` what it answers when it is made once more. A list of entries that is refused is written
@@ -13,21 +13,27 @@
 mod answering;
 mod answers;
 mod calls;
+mod encodings;
 mod key_calls;
+mod kinds;
 mod map_bulk;
 mod map_calls;
 mod map_queries;
 mod map_values;
 mod order_calls;
 mod prefix_calls;
+mod router_calls;
 mod set_bulk;
 mod set_calls;
 mod set_pairs;
 mod set_queries;
 mod walks;
+mod wholes;
 
 use answering::write_answers;
 use map_calls::MapCalls;
+use patricia_tree::{UnitKey, Units};
+use router_calls::RouterCalls;
 use set_calls::SetCalls;
 use std::alloc::Global;
 use std::io::{self, Read};
@@ -41,8 +47,13 @@ fn write_all(rt: &impl Print, alloc: Global, text: &str) -> io::Result<()> {
     let mut out = String::with_capacity(alloc, ROOM)?;
     write_answers::<&[u8], MapCalls<Vec<u8>>>(rt, alloc, "bytes", &calls, &mut out)?;
     write_answers::<&str, MapCalls<String>>(rt, alloc, "text", &calls, &mut out)?;
+    write_answers::<Units<'_>, MapCalls<UnitKey>>(rt, alloc, "units", &calls, &mut out)?;
     write_answers::<&[u8], SetCalls<Vec<u8>>>(rt, alloc, "bytes_set", &calls, &mut out)?;
-    write_answers::<&str, SetCalls<String>>(rt, alloc, "text_set", &calls, &mut out)
+    write_answers::<&str, SetCalls<String>>(rt, alloc, "text_set", &calls, &mut out)?;
+    write_answers::<Units<'_>, SetCalls<UnitKey>>(rt, alloc, "units_set", &calls, &mut out)?;
+    write_answers::<&[u8], RouterCalls<Vec<u8>>>(rt, alloc, "bytes_router", &calls, &mut out)?;
+    write_answers::<&str, RouterCalls<String>>(rt, alloc, "text_router", &calls, &mut out)?;
+    write_answers::<Units<'_>, RouterCalls<UnitKey>>(rt, alloc, "units_router", &calls, &mut out)
 }
 
 fn main(rt: HostRuntime) -> io::Result<()> {

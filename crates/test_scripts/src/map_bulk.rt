@@ -2,7 +2,8 @@
 
 use crate::answering::{add_entries, add_refusal};
 use crate::answers::Answers;
-use crate::calls::{self, Readable};
+use crate::calls;
+use crate::kinds::Readable;
 use crate::map_calls::MapCalls;
 use patricia_tree::{BorrowedBytes, Bytes, GenericPatriciaMap, LoadError};
 use std::alloc::{AllocError, Global};

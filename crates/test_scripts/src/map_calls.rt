@@ -2,12 +2,13 @@
 
 use crate::answering::{Answering, Listed, add_entries, add_refusal};
 use crate::answers::Answers;
-use crate::calls::{self, Readable};
+use crate::kinds::Readable;
 use crate::walks::add_walk;
-use crate::{map_bulk, map_queries, map_values};
+use crate::wholes::{self, Whole};
+use crate::{calls, map_bulk, map_queries, map_values};
+use patricia_tree::wire::WireError;
 use patricia_tree::{BorrowedBytes, Bytes, DecodeError, GenericPatriciaMap};
 use std::alloc::{AllocError, Global};
-use std::fmt::Debug;
 use std::iter::IntoIterator;
 use std::mem;
 
@@ -26,26 +27,85 @@ impl<K: Bytes> Listed for MapCalls<K> {
         }
     }
 
-    fn copied(&self) -> Result<Self, AllocError> {
-        let map = self.map.clone()?;
-        Ok(MapCalls { map })
-    }
-
     fn add_walked(&self, out: &mut String) -> Result<(), AllocError> {
         add_walk((&self.map).into_iter(), self.map.len(), out)
     }
 }
 
-impl<'a, Q: Readable<'a>> Answering<'a, Q> for MapCalls<Q::Owned>
-where
-    Q::Owned: Debug,
-{
+impl<'a, Q: Readable<'a>> Answering<'a, Q> for MapCalls<Q::Owned> {
+    fn answer(
+        &mut self,
+        alloc: Global,
+        call: &str,
+        arguments: &'a [Vec<u8>],
+        out: &mut String,
+    ) -> Result<(), AllocError> {
+        wholes::answer::<Q, Self>(self, alloc, call, arguments, out)
+    }
+}
+
+impl<'a, Q: Readable<'a>> Whole<'a, Q> for MapCalls<Q::Owned> {
+    fn copied(&self) -> Result<Self, AllocError> {
+        let map = self.map.clone()?;
+        Ok(MapCalls { map })
+    }
+
     fn split(&mut self, prefix: Q) -> Result<Self, AllocError> {
         let map = self.map.split_by_prefix(prefix)?;
         Ok(MapCalls { map })
     }
 
-    fn answer(
+    fn put(&mut self, key: Q, value: u64) -> Result<(), AllocError> {
+        match self.map.insert(key, value) {
+            Ok(_) => Ok(()),
+            Err(_) => Err(AllocError),
+        }
+    }
+
+    fn tree(&self, is_wide: bool) -> Result<Vec<u8>, WireError> {
+        if is_wide {
+            self.map.wide_tree_bytes()
+        } else {
+            self.map.tree_bytes()
+        }
+    }
+
+    fn count(&self) -> usize {
+        self.map.len()
+    }
+
+    fn open(
+        &mut self,
+        alloc: Global,
+        is_wide: bool,
+        tree: &[u8],
+        count: usize,
+    ) -> Result<(), DecodeError> {
+        let values = match numbers(alloc, count) {
+            Ok(values) => values,
+            Err(_) => return Err(DecodeError::Memory),
+        };
+        self.map = read(alloc, is_wide, tree, values)?;
+        Ok(())
+    }
+
+    fn read_again(&mut self, alloc: Global, is_wide: bool, tree: &[u8]) -> Result<(), DecodeError> {
+        let values = match copied_values(alloc, &self.map) {
+            Ok(values) => values,
+            Err(_) => return Err(DecodeError::Memory),
+        };
+        self.map = read(alloc, is_wide, tree, values)?;
+        Ok(())
+    }
+
+    fn add_values(&self, alloc: Global, values: &mut String) -> Result<(), AllocError> {
+        for value in self.map.values() {
+            add_json_value(alloc, values, value)?;
+        }
+        Ok(())
+    }
+
+    fn answer_other(
         &mut self,
         alloc: Global,
         call: &str,
@@ -70,12 +130,30 @@ where
                 self.map.clear();
                 Ok(())
             }
-            "fill" | "update" | "get_or_insert" | "raise" => {
+            "kept" => add_kept::<Q>(
+                mem::replace(&mut self.map, GenericPatriciaMap::new(alloc)),
+                arguments,
+                out,
+            ),
+            "fill" | "update" | "get_or_insert" | "raise" | "lend" | "lend_with" => {
                 map_values::answer::<Q>(&mut self.map, call, arguments, out)
             }
             _ => map_queries::answer::<Q>(alloc, &self.map, call, arguments, out),
         }
     }
+}
+
+// Adds a value that a walk gives to some with commas between.
+fn add_json_value(
+    alloc: Global,
+    values: &mut String,
+    value: Result<&u64, AllocError>,
+) -> Result<(), AllocError> {
+    let digits = value?.to_string(alloc)?;
+    if !values.is_empty() {
+        values.push(',')?;
+    }
+    values.push_str(&digits)
 }
 
 // Keeps the entries whose value is at least a number. Adds how often the closure was called, too.
@@ -212,6 +290,23 @@ fn values_again(alloc: Global, arguments: &[Vec<u8>]) -> Result<Vec<u64>, AllocE
     }
 }
 
+// The numbers from 1 on.
+fn numbers(alloc: Global, count: usize) -> Result<Vec<u64>, AllocError> {
+    let mut numbers = Vec::new(alloc);
+    for n in 1..=count {
+        numbers.push(n as u64)?;
+    }
+    Ok(numbers)
+}
+
+fn copied_values<K: Bytes>(alloc: Global, map: &Map<K>) -> Result<Vec<u64>, AllocError> {
+    let mut values = Vec::new(alloc);
+    for value in map.values() {
+        values.push(*value?)?;
+    }
+    Ok(values)
+}
+
 // A map that is read from tree bytes, or from wide ones.
 fn read<K: Bytes>(
     alloc: Global,
@@ -250,4 +345,41 @@ fn add_read<K: Bytes>(
 fn add_taken<K: Bytes>(map: Map<K>, out: &mut String) -> Result<(), AllocError> {
     let len = map.len();
     add_walk(map.into_iter(), len, out)
+}
+
+// The longest key that begins a key and the shortest one, which are there once the map is dropped.
+fn add_kept<'a, Q: Readable<'a>>(
+    map: Map<Q::Owned>,
+    arguments: &'a [Vec<u8>],
+    out: &mut String,
+) -> Result<(), AllocError> {
+    if let [key] = arguments
+        && let Some(key) = Q::read(key)
+    {
+        let (longest, shortest) = ends_along(map, key);
+        add_front(longest, out)?;
+        return add_front(shortest, out);
+    }
+    out.add("unknown")
+}
+
+// The same, of a map that is dropped.
+fn ends_along<Q: BorrowedBytes>(map: Map<Q::Owned>, key: Q) -> (Option<Q>, Option<Q>) {
+    let longest = match map.get_longest_common_prefix(key) {
+        Some((front, _)) => Some(front),
+        None => None,
+    };
+    let shortest = match map.common_prefixes(key).next() {
+        Some((front, _)) => Some(front),
+        None => None,
+    };
+    drop(map);
+    (longest, shortest)
+}
+
+fn add_front<Q: BorrowedBytes>(front: Option<Q>, out: &mut String) -> Result<(), AllocError> {
+    match front {
+        Some(front) => out.add_key(front.as_bytes()),
+        None => out.add("none"),
+    }
 }

@@ -1,12 +1,12 @@
 //! The calls that leave a map as it is.
 
 use crate::answers::Answers;
-use crate::calls::Readable;
+use crate::kinds::Readable;
 use crate::prefix_calls;
-use crate::walks::add_walk;
-use patricia_tree::{BorrowedBytes, GenericPatriciaMap};
+use crate::walks::{add_first, add_walk};
+use patricia_tree::{BorrowedBytes, Bytes, GenericPatriciaMap};
 use std::alloc::{AllocError, Global};
-use std::fmt::Debug;
+use std::iter::IntoIterator;
 
 type Map<K> = GenericPatriciaMap<K, u64>;
 
@@ -17,10 +17,7 @@ pub(super) fn answer<'a, Q: Readable<'a>>(
     call: &str,
     arguments: &'a [Vec<u8>],
     out: &mut String,
-) -> Result<(), AllocError>
-where
-    Q::Owned: Debug,
-{
+) -> Result<(), AllocError> {
     match call {
         "get" | "contains" => add_each::<Q>(map, call == "get", arguments, out),
         "len" => out.add_number(map.len() as u64),
@@ -28,12 +25,21 @@ where
         "keys" => add_walk(map.keys(), map.len(), out),
         "values" => add_walk(map.values(), map.len(), out),
         "cursor" => add_walk(map.cursor(), map.len(), out),
+        "begin" => add_begun(map, out),
         "itself" => out.add_bool(map.equals(map)?),
-        "tree" => out.add_tree(map.tree_bytes()),
-        "tree_wide" => out.add_tree(map.wide_tree_bytes()),
-        "debug" | "wide" => out.add_debug(map, call == "wide"),
+        "debug" | "wide" => Q::add_map(map, call == "wide", out),
         _ => prefix_calls::answer::<Q>(alloc, map, call, arguments, out),
     }
+}
+
+// What each walk gives first, also over a copy that it owns. The walks are dropped there.
+fn add_begun<K: Bytes>(map: &Map<K>, out: &mut String) -> Result<(), AllocError> {
+    add_first(map.iter(), out)?;
+    add_first(map.keys(), out)?;
+    add_first(map.values(), out)?;
+    add_first(map.cursor(), out)?;
+    let copy = map.clone()?;
+    add_first(copy.into_iter(), out)
 }
 
 // The answer about each key.

@@ -1,7 +1,8 @@
 //! The calls of a map that make or change values.
 
 use crate::answers::Answers;
-use crate::calls::{self, Readable};
+use crate::calls;
+use crate::kinds::Readable;
 use patricia_tree::map::IterMut;
 use patricia_tree::{BorrowedBytes, Bytes, GenericPatriciaMap};
 use std::alloc::AllocError;
@@ -39,6 +40,13 @@ fn add_one<Q: BorrowedBytes>(
     match call {
         "fill" => add_filled(map, key, value, out),
         "get_or_insert" => add_left(map, key, value, out),
+        "lend" => add_lent(lend(map, key, value), out),
+        "lend_with" => add_lent(
+            map.with_longest_common_prefix_mut(key, |front, there| {
+                (front, mem::replace(there, value))
+            }),
+            out,
+        ),
         _ => out.add_value(map.update(key, |there| mem::replace(there, value))),
     }
 }
@@ -66,6 +74,20 @@ fn add_left<Q: BorrowedBytes>(
     match map.get_or_insert_with(key, || 0) {
         Ok(there) => out.add_number(mem::replace(there, value)),
         Err(error) => Err(error),
+    }
+}
+
+// Leaves a value in place of that of the longest key that begins a key.
+fn lend<Q: BorrowedBytes>(map: &mut Map<Q::Owned>, key: Q, value: u64) -> Option<(Q, u64)> {
+    let (front, there) = map.get_longest_common_prefix_mut(key)?;
+    Some((front, mem::replace(there, value)))
+}
+
+// Adds the entry that was there.
+fn add_lent<Q: BorrowedBytes>(lent: Option<(Q, u64)>, out: &mut String) -> Result<(), AllocError> {
+    match lent {
+        Some((front, value)) => out.add_pair(front.as_bytes(), value),
+        None => out.add("none"),
     }
 }
 

@@ -1,8 +1,8 @@
 //! The calls of a map about the order of its keys, and how many begin with a prefix.
 
 use crate::answers::Answers;
-use crate::calls::Readable;
 use crate::key_calls;
+use crate::kinds::Readable;
 use crate::walks::add_walk;
 use patricia_tree::{BorrowedBytes, Bytes, GenericPatriciaMap};
 use std::alloc::{AllocError, Global};

@@ -1,9 +1,9 @@
 //! The calls of a map about prefixes of keys, and about keys that are few edits apart.
 
 use crate::answers::Answers;
-use crate::calls::{self, Readable};
-use crate::order_calls;
+use crate::kinds::Readable;
 use crate::walks::add_walk;
+use crate::{calls, order_calls};
 use patricia_tree::{BorrowedBytes, Bytes, GenericPatriciaMap};
 use std::alloc::{AllocError, Global};
 

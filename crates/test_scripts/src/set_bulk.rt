@@ -2,7 +2,7 @@
 
 use crate::answering::{add_entries, add_refusal};
 use crate::answers::Answers;
-use crate::calls::Readable;
+use crate::kinds::Readable;
 use crate::set_calls::SetCalls;
 use crate::set_pairs;
 use patricia_tree::{BorrowedBytes, Bytes, GenericPatriciaSet, LoadError};

@@ -2,12 +2,13 @@
 
 use crate::answering::{Answering, Listed, add_entries};
 use crate::answers::Answers;
-use crate::calls::{self, Readable};
+use crate::kinds::Readable;
 use crate::walks::add_walk;
-use crate::{set_bulk, set_queries};
+use crate::wholes::{self, Whole};
+use crate::{calls, set_bulk, set_queries};
+use patricia_tree::wire::WireError;
 use patricia_tree::{BorrowedBytes, Bytes, DecodeError, GenericPatriciaSet};
 use std::alloc::{AllocError, Global};
-use std::fmt::Debug;
 use std::iter::IntoIterator;
 use std::mem;
 
@@ -26,26 +27,83 @@ impl<K: Bytes> Listed for SetCalls<K> {
         }
     }
 
-    fn copied(&self) -> Result<Self, AllocError> {
-        let set = self.set.clone()?;
-        Ok(SetCalls { set })
-    }
-
     fn add_walked(&self, out: &mut String) -> Result<(), AllocError> {
         add_walk((&self.set).into_iter(), self.set.len(), out)
     }
 }
 
-impl<'a, Q: Readable<'a>> Answering<'a, Q> for SetCalls<Q::Owned>
-where
-    Q::Owned: Debug,
-{
+impl<'a, Q: Readable<'a>> Answering<'a, Q> for SetCalls<Q::Owned> {
+    fn answer(
+        &mut self,
+        alloc: Global,
+        call: &str,
+        arguments: &'a [Vec<u8>],
+        out: &mut String,
+    ) -> Result<(), AllocError> {
+        wholes::answer::<Q, Self>(self, alloc, call, arguments, out)
+    }
+}
+
+impl<'a, Q: Readable<'a>> Whole<'a, Q> for SetCalls<Q::Owned> {
+    fn copied(&self) -> Result<Self, AllocError> {
+        let set = self.set.clone()?;
+        Ok(SetCalls { set })
+    }
+
     fn split(&mut self, prefix: Q) -> Result<Self, AllocError> {
         let set = self.set.split_by_prefix(prefix)?;
         Ok(SetCalls { set })
     }
 
-    fn answer(
+    fn put(&mut self, key: Q, _value: u64) -> Result<(), AllocError> {
+        self.set.insert(key)?;
+        Ok(())
+    }
+
+    fn tree(&self, is_wide: bool) -> Result<Vec<u8>, WireError> {
+        if is_wide {
+            self.set.wide_tree_bytes()
+        } else {
+            self.set.tree_bytes()
+        }
+    }
+
+    fn count(&self) -> usize {
+        self.set.len()
+    }
+
+    fn open(
+        &mut self,
+        alloc: Global,
+        is_wide: bool,
+        tree: &[u8],
+        count: usize,
+    ) -> Result<(), DecodeError> {
+        let values = match nothings(alloc, count) {
+            Ok(values) => values,
+            Err(_) => return Err(DecodeError::Memory),
+        };
+        self.set = read(alloc, is_wide, tree, values)?;
+        Ok(())
+    }
+
+    fn read_again(&mut self, alloc: Global, is_wide: bool, tree: &[u8]) -> Result<(), DecodeError> {
+        let values = match nothings(alloc, self.set.len()) {
+            Ok(values) => values,
+            Err(_) => return Err(DecodeError::Memory),
+        };
+        self.set = read(alloc, is_wide, tree, values)?;
+        Ok(())
+    }
+
+    fn add_values(&self, _alloc: Global, values: &mut String) -> Result<(), AllocError> {
+        for n in 0..self.set.len() {
+            values.push_str(if n == 0 { "null" } else { ",null" })?;
+        }
+        Ok(())
+    }
+
+    fn answer_other(
         &mut self,
         alloc: Global,
         call: &str,

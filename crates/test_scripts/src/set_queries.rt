@@ -1,11 +1,10 @@
 //! The calls that leave a set as it is.
 
 use crate::answers::Answers;
-use crate::calls::Readable;
+use crate::kinds::Readable;
 use crate::walks::add_walk;
 use patricia_tree::{BorrowedBytes, Bytes, GenericPatriciaSet};
 use std::alloc::AllocError;
-use std::fmt::Debug;
 
 type Set<K> = GenericPatriciaSet<K>;
 
@@ -15,16 +14,11 @@ pub(super) fn answer<'a, Q: Readable<'a>>(
     call: &str,
     arguments: &'a [Vec<u8>],
     out: &mut String,
-) -> Result<(), AllocError>
-where
-    Q::Owned: Debug,
-{
+) -> Result<(), AllocError> {
     match call {
         "len" => out.add_number(set.len() as u64),
         "empty" => out.add_bool(set.is_empty()),
-        "tree" => out.add_tree(set.tree_bytes()),
-        "tree_wide" => out.add_tree(set.wide_tree_bytes()),
-        "debug" | "wide" => out.add_debug(set, call == "wide"),
+        "debug" | "wide" => Q::add_set(set, call == "wide", out),
         "cursor" => add_walk(set.cursor(), set.len(), out),
         "itself" => out.add_bool(set.equals(set)?),
         "range" | "cursor_range" => add_range::<Q>(set, call == "range", arguments, out),

@@ -23,6 +23,14 @@ pub fn add_walk<W: Walk>(mut walk: W, len: usize, out: &mut String) -> Result<()
     came
 }
 
+/// Adds what a walk gives first, or `none`, and drops the walk.
+pub fn add_first<W: Walk>(mut walk: W, out: &mut String) -> Result<(), AllocError> {
+    if walk.step(out)? {
+        return Ok(());
+    }
+    out.add("none")
+}
+
 fn add_steps<W: Walk>(walk: &mut W, len: usize, out: &mut String) -> Result<(), AllocError> {
     for _ in 0..=len {
         if !walk.step(out)? {
