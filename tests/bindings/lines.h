@@ -127,7 +127,7 @@ static void read_part(const char *text, size_t len)
     once = pool_len - first;
     if (star == NULL)
         return;
-    size_t times = (size_t)strtoull(star + 1, NULL, 10);
+    size_t times = star[1] == ' ' ? 0 : (size_t)strtoull(star + 1, NULL, 10);
     pool_len = first;
     for (size_t i = 0; i < times; i++, pool_len += once) {
         CHECK(pool_len + once < ROOM);

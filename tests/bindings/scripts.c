@@ -73,21 +73,40 @@ static uint32_t add_ahead(const asked *a, patricia_cursor *cursor)
     return result;
 }
 
-static uint32_t add_cursor(const asked *a, const char *call)
+/* What begins with each of the words, of iterators or of cursors. */
+static uint32_t add_under(const asked *a, bool is_cursor)
+{
+    uint32_t result = PATRICIA_DONE;
+    for (size_t at = 0; at < count && result == PATRICIA_DONE; at++) {
+        patricia_cursor cursor = PATRICIA_CURSOR_INIT;
+        word prefix = words[at];
+        if (!is_cursor) {
+            result = add_iterated(a, prefix);
+            continue;
+        }
+        result = a->is_text ? patricia_text_cursor_seek(&cursor, (const char *)prefix.at,
+                                                        prefix.len, prefix.len)
+                            : patricia_cursor_seek(&cursor, prefix.at, prefix.len, prefix.len);
+        if (result == PATRICIA_DONE)
+            result = add_ahead(a, &cursor);
+    }
+    return result;
+}
+
+/* All entries, those from a key on, or those before another one, too. */
+static uint32_t add_range(const asked *a)
 {
     patricia_cursor cursor = PATRICIA_CURSOR_INIT;
     uint32_t result = PATRICIA_DONE;
     const char *first = (const char *)words[0].at, *second = (const char *)words[1].at;
-    size_t common = strcmp(call, "cursor_prefix") == 0 ? words[0].len : 0;
     if (count == 2)
         result = a->is_text ? patricia_text_cursor_seek_range(&cursor, first, words[0].len, second,
                                                               words[1].len)
                             : patricia_cursor_seek_range(&cursor, words[0].at, words[0].len,
                                                          words[1].at, words[1].len);
     else if (count == 1)
-        result = a->is_text
-                     ? patricia_text_cursor_seek(&cursor, first, words[0].len, common)
-                     : patricia_cursor_seek(&cursor, words[0].at, words[0].len, common);
+        result = a->is_text ? patricia_text_cursor_seek(&cursor, first, words[0].len, 0)
+                            : patricia_cursor_seek(&cursor, words[0].at, words[0].len, 0);
     return result == PATRICIA_DONE ? add_ahead(a, &cursor) : result;
 }
 
@@ -289,11 +308,12 @@ static bool is_one_of(const char *call, const char *const *names)
 static const char *const ENCODINGS[] = {"tree",   "tree_wide",   "size", "size_wide",
                                         "read",   "read_wide",   "open", "open_wide",
                                         "reload", "reload_wide", NULL};
-static const char *const CURSORS[] = {"cursor", "cursor_range", "cursor_prefix", "range", NULL};
+static const char *const RANGES[] = {"cursor", "cursor_range", "range", NULL};
+static const char *const PREFIXES[] = {"under", "cursor_prefix", NULL};
 static const char *const PARTS[] = {"clone", "twin", "split", "split_off", "part", NULL};
 static const char *const OTHERS[] = {"insert", "remove", "extend", "from_iter", "load",  "clear",
                                      "len",    "empty",  "contains", "longest", "reach", "ends",
-                                     "beside", "count",  "cut",      "iter",    "under", NULL};
+                                     "beside", "count",  "cut",      "iter",    NULL};
 static const char *const OF_MAPS[] = {"get", "within", NULL};
 
 /* Calls that read. */
@@ -334,15 +354,16 @@ static uint32_t answer(asked *a, const char *call)
         return PATRICIA_DONE;
     if (is_one_of(call, ENCODINGS))
         return encode(a, call);
-    if (is_one_of(call, CURSORS))
-        return add_cursor(a, call);
+    if (is_one_of(call, RANGES))
+        return add_range(a);
+    if (is_one_of(call, PREFIXES))
+        return add_under(a, *call == 'c');
     if (is_one_of(call, PARTS))
         return part(a, call);
     switch (*call) {
     case 'i': return insert(a);
     case 'r': return removed(a);
     case 'l': return load_all(a);
-    case 'u': return add_iterated(a, words[0]);
     case 'w': return within(a);
     case 'c': return counted(a, call[1] == 'u');
     case 'b': return beside(a);
@@ -389,9 +410,9 @@ static void answer_lines(void)
 
 static void print_calls(void)
 {
-    const char *const *const lists[] = {ENCODINGS, CURSORS, PARTS, OTHERS, OF_MAPS};
+    const char *const *const lists[] = {ENCODINGS, RANGES, PREFIXES, PARTS, OTHERS, OF_MAPS};
     for (size_t i = 0; i < sizeof kinds / sizeof *kinds; i++)
-        for (size_t n = 0; n < (kinds[i].is_set ? 4 : 5); n++)
+        for (size_t n = 0; n < (kinds[i].is_set ? 5 : 6); n++)
             for (const char *const *name = lists[n]; *name != NULL; name++)
                 printf("%s %s\n", kinds[i].name, *name);
 }
