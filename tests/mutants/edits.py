@@ -1,15 +1,13 @@
 """The edits of crates/*/must-fail, what they turn, and which of them one check can try.
 
-An edit is a file with lines 'file:', 'old:' and 'new:', as rt reads them, and a line that rt
-passes over:
+An edit is a file with lines 'file:', 'old:' and 'new:', as rt reads them, and a line that rt passes over:
 
     goal: FUNCTION GOAL
 
-It names a function as a check does after 'fn', without the crate's name, and the goal of it that
-fails with the edit, or a lemma for it that stands in a file right in proofs/. With a third word,
-'read', someone has read why the goal is false with the edit. Without it the prover has to show so
-at each run, by values: that it has no proof of a goal may be so of a right body, too, and so may it
-be that values break a goal behind a loop that the edit brings in.
+It names a function as a check does after 'fn', without the crate's name, and the goal of it that fails with the edit,
+or a lemma for it that stands in a file right in proofs/. With a third word, 'read', someone has read why the goal is
+false with the edit. Without it the prover has to show so at each run, by values: that it has no proof of a goal may be
+so of a right body, too, and so may it be that values break a goal behind a loop that the edit brings in.
 """
 import os
 import re
@@ -54,17 +52,12 @@ class Sources:
         return 'src/main.rt' if 'src/main.rt' in self.texts else 'src/lib.rt'
 
     def edits(self):
-        """The edits of its folder must-fail, where nothing else stands but pages to be read."""
+        """The edits of its folder must-fail, and its lines of code that a comment 'refused:' holds."""
         there = os.path.join(self.folder, 'must-fail')
         names = sorted(os.listdir(there)) if os.path.isdir(there) else []
-        return [Edit(os.path.join(there, x)) for x in names if not x.endswith('.md')]
-
-    def lines(self):
-        """Its lines of code that a comment 'refused:' holds."""
-        for file, text in sorted(self.texts.items()):
-            for at, line in enumerate(text.split('\n')):
-                if file.startswith('src/') and REFUSED in line:
-                    yield Line(file, at + 1)
+        lines = [Line(file, at + 1) for file, text in sorted(self.texts.items()) if file.startswith('src/')
+                 for at, line in enumerate(text.split('\n')) if REFUSED in line]
+        return [*lines, *(Edit(os.path.join(there, x)) for x in names if x.endswith('.edit'))]
 
     def function_at(self, file, number):
         """The name of the function of which a line of a file is code, or None."""
@@ -86,8 +79,7 @@ class Sources:
         return words[-1] if words else None
 
     def namings(self, word, function):
-        """How often the texts name a word, but for the lines that define it, and for the proof of
-        this function."""
+        """How often the texts name a word, but for the lines that define it, and for the proof of this function."""
         own, defined = '/%s/' % function, re.compile(DEFINES % (word, word), re.M)
         texts = [text for path, text in self.texts.items() if own not in path]
         bare = [defined.sub('', USE.sub('', COMMENT.sub('', x))) for x in texts]
@@ -128,10 +120,13 @@ class Edit:
         return texts
 
     def turns(self, sources):
-        """The files and names of the functions whose code it turns, or none if it turns anything
-        else."""
+        """The files and names of the functions whose code it turns, or none if it turns anything else but the proof of
+        its goal's function."""
+        own = self.goal and 'proofs/%s/' % self.goal.function.replace('::', '/')
         found = set()
         for file, old, _ in self.changes:
+            if own and file.startswith(own):
+                continue
             text = sources.texts.get(file, '')
             name = sources.function_at(file, text[:text.find(old) + len(old)].count('\n') + 1)
             found.add((file, name))
@@ -142,8 +137,8 @@ class Edit:
         return any(LOOP.search(new) for _, _, new in self.changes)
 
     def is_apart(self, sources):
-        """Whether it opens goals of its own function alone. Code does, and so does the promise of
-        a function that nothing else names, and a definition that this promise alone names."""
+        """Whether it opens goals of its own function alone. Code does, and so does the promise of a function that
+        nothing else names, and a definition that this promise alone names."""
         function = self.goal.function.split('::')[-1]
         words = {sources.word_at(file, old) for file, old, _ in self.changes}
         if self.turns(sources):
@@ -154,7 +149,7 @@ class Edit:
 
 
 class Line(NamedTuple):
-    """A line of code that a comment holds."""
+    """A line of code that a comment holds, since it breaks the rules of borrows."""
     file: str
     number: int
 
@@ -166,7 +161,7 @@ class Line(NamedTuple):
     def text(self):
         return self.name
 
-    def texts(self, sources):
+    def texts(self, sources, _):
         """The text of its file with it as code."""
         lines = sources.texts[self.file].split('\n')
         lines[self.number - 1] = lines[self.number - 1].replace(REFUSED, '')
@@ -176,29 +171,35 @@ class Line(NamedTuple):
 class Pack:
     """Edits that one check tries, and the texts with all of them made."""
 
-    def __init__(self, edits=(), texts=(), turned=()):
-        self.edits = list(edits)
-        self.texts = dict(texts)
-        self.turned = {*turned}
+    def __init__(self, edit, sources, those):
+        self.edits = [edit]
+        self.texts = edit.texts(sources, {})
+        self.turned = those
 
-    def takes(self, edit, sources, turned):
+    def takes(self, edit, sources, those):
         """Adds an edit that turns these, if none of the others turns them too."""
-        both = edit.texts(sources, self.texts)
-        if len(self.edits) == MOST_IN_ONE or turned & self.turned or both is None:
+        both = edit.texts(sources, self.texts) if those and self.turned else None
+        if both is None or len(self.edits) == MOST_IN_ONE or those & self.turned:
             return False
         self.edits.append(edit)
         self.texts = both
-        self.turned |= turned
+        self.turned = self.turned | those
         return True
 
 
-def packs(edits, sources, turned):
-    """Edits in packs. Those that turn nothing, by this function, stand alone."""
+def turned(edit, sources):
+    """By what an edit is told from the others of its pack, or nothing where it has to stand alone."""
+    is_apart = isinstance(edit, Edit) and edit.goal and edit.is_apart(sources)
+    return {edit.goal.function, *edit.turns(sources)} if is_apart else set()
+
+
+def packs(edits, sources):
+    """Edits in packs."""
     made = []
     for edit in edits:
-        those = turned(edit)
-        if not those or not any(x.turned and x.takes(edit, sources, those) for x in made):
-            made.append(Pack([edit], edit.texts(sources, {}) or {}, those))
+        those = turned(edit, sources)
+        if not any(x.takes(edit, sources, those) for x in made):
+            made.append(Pack(edit, sources, those))
     return made
 
 
