@@ -5,13 +5,16 @@ An edit is a file with lines 'file:', 'old:' and 'new:', as rt reads them, and a
     goal: FUNCTION GOAL
 
 It names a function as a check does after 'fn', without the crate's name, and the goal of it that fails with the edit,
-or a lemma for it that stands in a file right in proofs/. With a third word, 'read', someone has read why the goal is
-false with the edit. Without it the prover has to show so at each run, by values: that it has no proof of a goal may be
-so of a right body, too, and so may it be that values break a goal behind a loop that the edit brings in.
+or a lemma for it that stands in a file right in proofs/. With the word 'read' after them someone has read why the goal
+is false with the edit. Without it the prover has to show so at each run, by values: that it has no proof of a goal may
+be so of a right body, too, and so may it be that values break a goal behind a loop that the edit brings in. With the
+word 'searched' the goal's answer is taken out of the proof, which names what the edit replaces, and search tries it.
 """
 import os
 import re
 from typing import NamedTuple
+
+from tests.mutants.checks import function_of
 
 MOST_IN_ONE = 64
 PARTS = 'src', 'specs', 'proofs'
@@ -72,6 +75,11 @@ class Sources:
                 name = None
         return name if is_code else None
 
+    def answers(self, function):
+        """The file and the text of the answers to a function's goals."""
+        files = [x for x in self.texts if x.endswith('/Answers.antt') and function_of(os.path.dirname(x)) == function]
+        return files[0], self.texts[files[0]]
+
     def word_at(self, file, old):
         """The word of specs/ in whose definition a text stands, or None."""
         text = self.texts.get(file, '')
@@ -94,7 +102,7 @@ class Edit:
         self.name = os.path.basename(path)
         self.text = read(path)
         self.changes = []
-        self.goal, self.is_read = None, False
+        self.goal, self.marks = None, []
         file = old = None
         for line in self.text.split('\n'):
             word, _, rest = line.partition(':')
@@ -106,8 +114,8 @@ class Edit:
             elif word == 'new':
                 self.changes.append((file, old, rest))
             elif word == 'goal' and len(rest.split()) >= 2:
-                function, goal, *marks = rest.split()
-                self.goal, self.is_read = Goal(function, goal), marks == ['read']
+                function, goal, *self.marks = rest.split()
+                self.goal = Goal(function, goal)
 
     def texts(self, sources, texts):
         """These texts of the sources with the change made, or None where it does not apply."""
@@ -117,6 +125,9 @@ class Edit:
             if not old or text.count(old) != 1:
                 return None
             texts[file] = text.replace(old, new)
+        if 'searched' in self.marks:
+            file, text = sources.answers(self.goal.function)
+            texts[file] = re.sub(r'^pub %s : .*?(?=^pub |\Z)' % self.goal.name, '', text, flags=re.M | re.S)
         return texts
 
     def turns(self, sources):

@@ -40,7 +40,7 @@ class Work:
         made = packs([x for x in self.edits if x not in lost], self.sources)
         told, calls = [self.say(x, None, why) for x in lost], []
         if made:
-            os.makedirs(self.room + '/first')
+            os.makedirs(self.room + '/first', exist_ok=True)
             first, calls = self.tried(made[0], self.room + '/first')
             told += first
         return told, [*map(self.call, made[1:]), *calls]
@@ -95,7 +95,7 @@ def judged(edit, check):
         return None, missed(check, edit.goal)
     if any(x.is_false for x in failures) and not edit.loops():
         return REFUTED, line
-    return (READ, line) if edit.is_read else (None, 'TO READ, not shown false: ' + line)
+    return (READ, line) if 'read' in edit.marks else (None, 'TO READ, not shown false: ' + line)
 
 
 def missed(check, goal):
