@@ -37,6 +37,10 @@ class Goal(NamedTuple):
     def __str__(self):
         return '%s %s' % self
 
+    def bare(self):
+        """The function's name, without what it stands in."""
+        return self.function.split('::')[-1]
+
 
 class Sources:
     """The files of a crate that a check reads, by their paths in its folder."""
@@ -62,10 +66,11 @@ class Sources:
                  for at, line in enumerate(text.split('\n')) if REFUSED in line]
         return [*lines, *(Edit(os.path.join(there, x)) for x in names if x.endswith('.edit'))]
 
-    def function_at(self, file, number):
-        """The name of the function of which a line of a file is code, or None."""
+    def function_at(self, file, old):
+        """The name of the function of whose code a text is a part, or None."""
+        text = self.texts.get(file, '') if file.startswith('src/') else ''
         name = depth = is_code = None
-        for line in self.texts[file].split('\n')[:number] if file.startswith('src/') else []:
+        for line in text[:text.find(old) + len(old)].split('\n'):
             head = FUNCTION.match(line)
             if head:
                 depth, name, is_code = *head.groups(), line.endswith('{')
@@ -98,13 +103,10 @@ class Edit:
     """A change of lines: the file of each, what is there, and what is put there."""
 
     def __init__(self, path):
-        self.path = path
         self.name = os.path.basename(path)
-        self.text = read(path)
-        self.changes = []
-        self.goal, self.marks = None, []
+        self.changes, self.goal, self.marks = [], None, []
         file = old = None
-        for line in self.text.split('\n'):
+        for line in read(path).split('\n'):
             word, _, rest = line.partition(':')
             rest = rest.removeprefix(' ')
             if word == 'file':
@@ -130,32 +132,20 @@ class Edit:
             texts[file] = re.sub(r'^pub %s : .*?(?=^pub |\Z)' % self.goal.name, '', text, flags=re.M | re.S)
         return texts
 
-    def turns(self, sources):
-        """The files and names of the functions whose code it turns, or none if it turns anything else but the proof of
-        its goal's function."""
-        own = self.goal and 'proofs/%s/' % self.goal.function.replace('::', '/')
-        found = set()
-        for file, old, _ in self.changes:
-            if own and file.startswith(own):
-                continue
-            text = sources.texts.get(file, '')
-            name = sources.function_at(file, text[:text.find(old) + len(old)].count('\n') + 1)
-            found.add((file, name))
-        return found if all(name for _, name in found) else set()
-
     def loops(self):
         """Whether it brings in a loop, of which nothing is known but what an invariant says."""
         return any(LOOP.search(new) for _, _, new in self.changes)
 
     def is_apart(self, sources):
-        """Whether it opens goals of its own function alone. Code does, and so does the promise of a function that
+        """Whether it opens goals of its own function alone. Code of it does, and so does the promise of a function that
         nothing else names, and a definition that this promise alone names."""
-        function = self.goal.function.split('::')[-1]
-        words = {sources.word_at(file, old) for file, old, _ in self.changes}
-        if self.turns(sources):
+        function = self.goal.bare()
+        places = [(file, old) for file, old, _ in self.changes]
+        if all(sources.function_at(*x) == function for x in places):
             return True
+        words = {sources.word_at(*x) for x in places}
         if words == {None}:
-            return sources.namings(function, function) == 0
+            return not any(sources.function_at(*x) for x in places) and sources.namings(function, function) == 0
         return all(x and sources.namings(x, function) == 1 for x in words)
 
 
@@ -168,10 +158,6 @@ class Line(NamedTuple):
     def name(self):
         return 'line %d of %s' % (self.number, self.file)
 
-    @property
-    def text(self):
-        return self.name
-
     def texts(self, sources, _):
         """The text of its file with it as code."""
         lines = sources.texts[self.file].split('\n')
@@ -180,37 +166,33 @@ class Line(NamedTuple):
 
 
 class Pack:
-    """Edits that one check tries, and the texts with all of them made."""
+    """Edits that one check tries, of which each opens goals of another function or stands alone, and the texts with all
+    of them made."""
 
-    def __init__(self, edit, sources, those):
+    def __init__(self, edit, sources):
         self.edits = [edit]
         self.texts = edit.texts(sources, {})
-        self.turned = those
+        is_apart = isinstance(edit, Edit) and edit.goal and edit.is_apart(sources)
+        self.functions = {edit.goal.function} if is_apart else set()
 
-    def takes(self, edit, sources, those):
-        """Adds an edit that turns these, if none of the others turns them too."""
-        both = edit.texts(sources, self.texts) if those and self.turned else None
-        if both is None or len(self.edits) == MOST_IN_ONE or those & self.turned:
+    def takes(self, other, sources):
+        """Adds the edit of another pack, if it can."""
+        edit = other.edits[0]
+        both = edit.texts(sources, self.texts) if self.functions and other.functions else None
+        if both is None or len(self.edits) == MOST_IN_ONE or self.functions & other.functions:
             return False
         self.edits.append(edit)
         self.texts = both
-        self.turned = self.turned | those
+        self.functions |= other.functions
         return True
-
-
-def turned(edit, sources):
-    """By what an edit is told from the others of its pack, or nothing where it has to stand alone."""
-    is_apart = isinstance(edit, Edit) and edit.goal and edit.is_apart(sources)
-    return {edit.goal.function, *edit.turns(sources)} if is_apart else set()
 
 
 def packs(edits, sources):
     """Edits in packs."""
     made = []
-    for edit in edits:
-        those = turned(edit, sources)
-        if not any(x.takes(edit, sources, those) for x in made):
-            made.append(Pack(edit, sources, those))
+    for pack in [Pack(x, sources) for x in edits]:
+        if not any(x.takes(pack, sources) for x in made):
+            made.append(pack)
     return made
 
 
