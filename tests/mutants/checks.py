@@ -155,14 +155,3 @@ class Prover:
         """A check of these functions, or of all, over what earlier ones left in a folder."""
         only = [x for function in sorted(functions) for x in ('--only', function)]
         return Check(self.run('check', sources, texts, '--incremental', work, *only))
-
-    def archive(self, sources, work, path):
-        """Builds a static library, which has its name once it is whole. Returns what was said."""
-        part = path + '.part'
-        for old in [x for x in (part, path) if os.path.exists(x)]:
-            os.remove(old)
-        said = self.run('build', sources, {}, '--incremental', work, '--backend', 'llvm',
-                        '--toolchain', self.kit + '/toolchain', '-o', part)
-        if os.path.exists(part):
-            os.replace(part, path)
-        return Check(said)
