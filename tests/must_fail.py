@@ -1,17 +1,16 @@
 #!/usr/bin/env python3
 """Tries the mutants of crates/*/must-fail, each of which must leave open a goal of its function.
 
-    tests/must_fail.py [--record]                  those of the crates that are due (tests/mutants/due.py says which)
-    tests/must_fail.py [--record] --all            those of all crates
-    tests/must_fail.py [--record] CRATE..          those of the crates named
-    tests/must_fail.py CRATE/EDIT..                the ones named
+    tests/must_fail.py [--record]            those of the crates that are due (tests/mutants/due.py says which)
+    tests/must_fail.py [--record] --all      those of all crates
+    tests/must_fail.py [--record] CRATE..    those of the crates named
+    tests/must_fail.py CRATE/EDIT..          the ones named
 
 With --record, packaging/mutants.json says of which crates each was good. A crate is due until it does.
 
-An edit's line 'goal:' names a function, and the goal of it that has to fail by its meaning, and not because a proof
-names what the edit took away or replaced. That refuses the edit where the prover finds values at which the goal is
-false, or the line says that someone read why it is. That no proof is found may be so of a right body, too: such an edit
-is to be read, and no good until it is. An edit without the line is no good either: the goals that fail are listed.
+An edit names a goal, which has to fail by its meaning, and not because a proof names what the edit took away or
+replaced. That refuses the edit where the prover finds values at which the goal is false, or someone read why it is:
+that no proof is found may be so of a right body, too.
 
 A function is proved from its own code and from the promises of those that it calls. So an edit of code opens goals of
 its own function alone, and one check tries edits of many functions. An edit that opens no goal there is tried by
