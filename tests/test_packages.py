@@ -49,8 +49,11 @@ def git(place, *words):
 
 
 def committed(place):
-    """A repository of the sources, in which no mutants are due. Here may be none: the gate runs the tests in a copy."""
-    shutil.copytree(ROOT, place, ignore=shutil.ignore_patterns(*NOT_SOURCES))
+    """A repository of the sources, in which no mutants are due. Here may be neither a repository nor a mutant: the gate
+    runs the tests in a copy."""
+    shutil.copytree(ROOT, place, ignore=shutil.ignore_patterns(*NOT_SOURCES, 'must-fail'))
+    os.makedirs(place + '/crates/patricia_keys/must-fail')
+    shutil.copy(__file__, place + '/crates/patricia_keys/must-fail')
     git(place, 'init', '-q')
     git(place, 'add', '-A')
     git(place, 'commit', '-qm', 'Sources')

@@ -46,12 +46,12 @@ def changed(root, commit, crates):
 
 
 def crates_due(root, crates):
-    """The names of the crates whose mutants are due: all that the record does not name with this kit, and those that
-    changed since."""
+    """The names of the crates whose mutants are due: of those that have any all that the record does not name with this
+    kit, and those that changed since."""
     known, this_kit = recorded(root), kit(root)
     since = {commit: changed(root, commit, crates) for commit in {x['commit'] for x in known.values()}}
-    return [x for x in crates
-            if x not in known or known[x]['kit'] != this_kit or x in since[known[x]['commit']]]
+    return [x for x in crates if os.path.isdir(os.path.join(root, 'crates', x, 'must-fail'))
+            and (x not in known or known[x]['kit'] != this_kit or x in since[known[x]['commit']])]
 
 
 def record(root, good):
