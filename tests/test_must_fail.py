@@ -34,14 +34,14 @@ ghost use Rattle.std.specs.Prelude.{◌≡◌, ◌*◌, IsTrue, ◌↔◌, [], l
 ''' + ''.join('\npub fn %s(%s\n    ensures { %s }\n{\n    %s // %s\n}\n' % (name, *body[:3], name)
               for name, body in RIGHT_BODIES.items())
 DIFFER = ('./proofs/low/f/Answers.antt:9:29: error: `returns`: as printed, the two types %s where one has\n'
-          '  %s and the other has `%s` (found)\nonly=1 holes=0')
+          '  %s and the other has `%s` (found)\nonly=1 proved=0')
 STATEMENT = DIFFER % ('differ only', '`take 1 c.args.bytes` (expected)', 'c.args.bytes')
 # a local in place of a parameter
 NAME = DIFFER % ('differ only', '`c.args.top` (expected)', 'c.if-at-eq0.first')
 VALUES = '''note: src/low.rt:97:9: it is not proved that what `take` requires holds at this call (`take-requires`); the facts
   known there allow values at which this goal is false
 fn small::low::taken: not proved
-only=1 holes=0'''
+only=1 proved=0'''
 # What a check said, and of the goal that fails its function, its name, if it is false, and if by names alone.
 SAID = {
     VALUES: ('low::taken', 'take-requires', True, False),
@@ -64,7 +64,7 @@ SAID = {
 CALLS = '''note: src/low.rt:5:1: it is not proved that what the function ensures holds when it returns (`returns`)
 fn small::low::caller: no proof: `search` did not prove `returns`; it calls `small::low::callee`, which is not proved
 note: `search` has not tried the goals of `small::low::other`, which wait for a callee's proof: some may be open after it
-only=2 holes=0'''
+only=2 proved=0'''
 
 
 class Small(unittest.TestCase):

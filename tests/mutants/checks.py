@@ -27,8 +27,7 @@ ERROR = re.compile(r'(?:\./)?(\S+?:\d+):\d+: error: (.*)')
 VERDICT = re.compile(r'fn \w+::(\S+): (.*)')
 CALLEE = re.compile(r'it calls `|waits? for (?:a|the) callee')
 NOT_TRIED = re.compile(r'note: `search` has not tried the goals of (.*), which wait')
-ENDED = re.compile(r'only=\d+ holes=\d+|holes=\d+')
-PROVED = re.compile(r'no holes|depends on a hole')
+ENDED = re.compile(r'only=(\d+) proved=(\d+)|logic=(proved|not-proved)\b')
 NAMED = re.compile(r'.*?\(`([^`]*)`\)|`([^`]*)`')
 
 
@@ -56,12 +55,12 @@ class Check:
         # a long message is broken into lines, of which all but the first begin with two spaces
         self.lines = re.sub('\n {2}(?! )', ' ', said.rstrip()).split('\n')
         self.ended = ENDED.match(self.lines[-1])
+        asked, proved, whole = self.ended.groups() if self.ended else (None, None, None)
+        self.is_refused = asked != proved or whole == 'not-proved'
         self.failures = list(self.failing())
-        verdicts = [x.groups() for x in map(VERDICT.match, self.lines) if x]
-        self.proved = {function for function, said in verdicts if PROVED.match(said)}
         untried = [y for x in map(NOT_TRIED.match, self.lines) if x for y in re.findall(r'`\w+::([^`]*)`', x[1])]
         # the functions of which a failure may be due to a callee that is not proved
-        self.waiting = {*untried, *(function for function, said in verdicts if CALLEE.search(said))}
+        self.waiting = {*untried, *(x[1] for x in map(VERDICT.match, self.lines) if x and CALLEE.search(x[2]))}
 
     def failing(self):
         """The goals that fail. A note stands above the verdict on its function, and an error in a proof file lies in
@@ -144,8 +143,6 @@ class Prover:
         """What it says of a crate with these texts in place of its own."""
         with tempfile.TemporaryDirectory(prefix='must-fail-') as room:
             for path, text in {**sources.texts, **texts}.items():
-                if text is None:
-                    continue
                 os.makedirs(os.path.dirname(os.path.join(room, path)), exist_ok=True)
                 with open(os.path.join(room, path), 'w', encoding='utf-8') as file:
                     file.write(text)
@@ -155,8 +152,6 @@ class Prover:
         return ran.stdout
 
     def check(self, sources, texts, work, functions=()):
-        """A check of these functions, or of all, over what earlier ones left in a folder. Of others a hole is the
-        proof, so that only their statements are read."""
+        """A check of these functions, or of all, over what earlier ones left in a folder."""
         only = [x for function in sorted(functions) for x in ('--only', function)]
-        texts = {**texts, **(sources.holes(functions) if functions else {})}
-        return Check(self.run('check', sources, texts, '--incremental', work, '--allow-holes', *only))
+        return Check(self.run('check', sources, texts, '--incremental', work, *only))

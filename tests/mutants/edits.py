@@ -18,12 +18,6 @@ from tests.mutants.checks import function_of
 
 MOST_IN_ONE = 64
 PARTS = 'src', 'specs', 'proofs'
-ANSWERS, INVARIANTS, PROOF = '/Answers.antt', '/Invariants.antt', '/Proof.antt'
-HOLE = '''use Rattle.{0}.{1}.Statement.{{statement}}
-
-pub {2}_spec : {{M : Type 1}} → statement M
-{2}_spec = ?
-'''
 REFUSED = '// refused: '
 COMMENT = re.compile('//.*|(?<![^ ])-- .*')
 USE = re.compile(r'\buse\s[^;{}]*\{[^}]*\}')
@@ -88,20 +82,8 @@ class Sources:
 
     def answers(self, function):
         """The file and the text of the answers to a function's goals."""
-        files = [x for x in self.texts if x.endswith(ANSWERS) and function_of(os.path.dirname(x)) == function]
+        files = [x for x in self.texts if x.endswith('/Answers.antt') and function_of(os.path.dirname(x)) == function]
         return files[0], self.texts[files[0]]
-
-    def holes(self, functions):
-        """The proofs of all but these functions with a hole in place of what they have. None stands for no file. A
-        cycle of calls keeps its proof."""
-        found = {}
-        for path in [x for x in self.texts if x.endswith((ANSWERS, INVARIANTS, PROOF)) and '/+' not in x]:
-            folder = os.path.dirname(path)
-            if function_of(folder) not in functions:
-                module = folder.replace('/', '.')
-                found[path] = None
-                found[folder + PROOF] = HOLE.format(self.crate.name, module, os.path.basename(folder))
-        return found
 
     def word_at(self, file, old):
         """The word of specs/ in whose definition a text stands, or None."""

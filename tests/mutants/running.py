@@ -102,7 +102,7 @@ def missed(check, goal):
     """Why an edit is no good whose goal does not fail by its meaning."""
     if not check.ended:
         return 'NOT TRIED: ' + check.text()
-    if goal.function in check.proved:
+    if not check.is_refused:
         return 'NOT REFUSED: ' + check.text()
     if check.of(goal):
         return 'REFUSED BY NAMES ALONE: it says little of the contract: %s' % str(check.of(goal)[0])
