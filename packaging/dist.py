@@ -8,8 +8,8 @@
 
 --kinds names some of the packages.
 
-It refuses where files are changed or not committed, where no gate passed at this commit, and where mutants are due: each
-of them was good at this commit, or at one since which no file has changed that its check reads. All is made from the
+It refuses where files are changed or not committed, where no gate passed at this commit, and where mutants are due:
+each was good at this commit, or at one since which no file has changed that its check reads. All is made from the
 commit, in a folder of its own, so that equal commits and equal files give equal bytes.
 """
 import argparse

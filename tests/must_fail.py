@@ -17,8 +17,8 @@ its own function alone, and one check tries edits of many functions. An edit tha
 itself, and so is one of what others rest on, and one of a function that calls what another edit of the check turns.
 Each line of a crate's code that a comment 'refused:' holds is tried too: as code, it breaks the rules of borrows.
 
-The libraries are those that rt left in crates/*/out, here or in the folder '--built'. The last line sums all: 'N passed,
-M failed'.
+The libraries are those that rt left in crates/*/out, here or in the folder '--built'. The last line sums all:
+'N passed, M failed'.
 """
 import argparse
 import os

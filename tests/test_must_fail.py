@@ -63,7 +63,8 @@ SAID = {
 }
 CALLS = '''note: src/low.rt:5:1: it is not proved that what the function ensures holds when it returns (`returns`)
 fn small::low::caller: no proof: `search` did not prove `returns`; it calls `small::low::callee`, which is not proved
-note: `search` has not tried the goals of `small::low::other`, which wait for a callee's proof: some may be open after it
+note: `search` has not tried the goals of `small::low::other`, which wait for a callee's proof: some may be open after
+  it
 only=2 proved=0'''
 
 
