@@ -38,8 +38,8 @@ DIFFER = ('./proofs/low/f/Answers.antt:9:29: error: `returns`: as printed, the t
 STATEMENT = DIFFER % ('differ only', '`take 1 c.args.bytes` (expected)', 'c.args.bytes')
 # a local in place of a parameter
 NAME = DIFFER % ('differ only', '`c.args.top` (expected)', 'c.if-at-eq0.first')
-VALUES = '''note: src/low.rt:97:9: it is not proved that what `take` requires holds at this call (`take-requires`); the facts
-  known there allow values at which this goal is false
+VALUES = '''note: src/low.rt:97:9: it is not proved that what `take` requires holds at this call (`take-requires`); the
+  facts known there allow values at which this goal is false
 fn small::low::taken: not proved
 only=1 proved=0'''
 # What a check said, and of the goal that fails its function, its name, if it is false, and if by names alone.
@@ -57,8 +57,8 @@ SAID = {
         ('low::f', 'returns', False, False),
     './proofs/Laws.antt:3:4: error: `ordered`: a tuple is checked\nfn small::law: not proved':
         ('-', 'ordered', False, False),
-    'note: src/low.rt:65:5: it is not proved that what the function ensures holds (`returns-clause-value`)\nnote: a goal'
-    ' may be false\nfn small::low::is_empty: no proof: expected answers':
+    'note: src/low.rt:65:5: it is not proved that what the function ensures holds (`returns-clause-value`)\nnote: a '
+    'goal may be false\nfn small::low::is_empty: no proof: expected answers':
         ('low::is_empty', 'returns-clause-value', False, False),
 }
 CALLS = '''note: src/low.rt:5:1: it is not proved that what the function ensures holds when it returns (`returns`)
