@@ -8,7 +8,8 @@
 
 --kinds names some of the packages.
 
-It refuses where files are changed or not committed, and where no gate passed at this commit. All is made from the
+It refuses where files are changed or not committed, where no gate passed at this commit, and where mutants are due:
+each was good at this commit, or at one since which no file has changed that its check reads. All is made from the
 commit, in a folder of its own, so that equal commits and equal files give equal bytes.
 """
 import argparse
@@ -23,6 +24,8 @@ sys.path.insert(0, os.path.dirname(os.path.abspath(__file__)))
 import gate  # noqa: E402
 import packages  # noqa: E402
 import tree  # noqa: E402
+from tests import crates as listing  # noqa: E402
+from tests.mutants import due  # noqa: E402
 
 HERE = os.path.dirname(os.path.abspath(__file__))
 
@@ -48,6 +51,10 @@ def record(asked):
         raise gate.NotProved('these files differ from the commit: %s. Commit them first' % ', '.join(changed[:9]))
     if asked.trial:
         return {'commit': commit, 'sums': gate.sums(asked.trial)}
+    crates = due.crates_due(tree.ROOT, listing.listed(tree.ROOT))
+    if crates:
+        raise gate.NotProved('mutants of these crates are due: %s. tests/must_fail.py --record tries them, and writes '
+                             'down that they are good' % ', '.join(crates))
     return gate.proved(commit, asked.gate)
 
 

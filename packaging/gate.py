@@ -12,13 +12,14 @@ import json
 import os
 import re
 import shutil
-import subprocess
 import sys
 import tempfile
 
 sys.dont_write_bytecode = True
 sys.path.insert(0, os.path.dirname(os.path.abspath(__file__)))
 import tree  # noqa: E402
+sys.path.insert(0, tree.ROOT)
+from tests.mutants import due  # noqa: E402
 
 FOLDER = os.path.join(tree.ROOT, 'out', 'gate')
 ARCHIVE, PROGRAMS = 'libpatricia_c.a', ('ptree', 'prefixes')
@@ -39,12 +40,6 @@ def sums(folder):
     return found
 
 
-def kit():
-    """The line by which the kit names itself."""
-    ran = subprocess.run(['rt', 'version'], stdout=subprocess.PIPE, encoding='utf-8', check=True)
-    return ran.stdout.strip()
-
-
 def keep(commit, copy, archive, line, folder=FOLDER):
     """Keeps what was built, in place of what an earlier run kept."""
     os.makedirs(os.path.dirname(folder), exist_ok=True)
@@ -53,7 +48,7 @@ def keep(commit, copy, archive, line, folder=FOLDER):
     for name in PROGRAMS:
         shutil.copy(os.path.join(copy, 'crates', name, 'out', name), room)
     with open(os.path.join(room, RECORD), 'w', encoding='utf-8') as file:
-        json.dump({'commit': commit, 'kit': kit(), 'line': line, 'sums': sums(room)}, file, indent=1)
+        json.dump({'commit': commit, 'kit': due.kit(tree.ROOT), 'line': line, 'sums': sums(room)}, file, indent=1)
     os.chmod(room, 0o755)
     shutil.rmtree(folder, ignore_errors=True)
     os.rename(room, folder)

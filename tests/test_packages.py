@@ -19,6 +19,7 @@ import zipfile
 from typing import NamedTuple
 from tests import crates
 from tests.bindings import documented
+from tests.mutants import due
 from tests.packages import root
 from tests.support import ROOT, Case, each, folder, run
 from tests.test_bindings import archive
@@ -49,11 +50,17 @@ def git(place, *words):
 
 
 def committed(place):
-    """A repository of the sources, with one commit. Here may be none: the gate runs the tests in a copy."""
-    shutil.copytree(ROOT, place, ignore=shutil.ignore_patterns(*NOT_SOURCES))
+    """A repository of the sources, in which no mutants are due. Here may be neither a repository nor a mutant: the gate
+    runs the tests in a copy."""
+    shutil.copytree(ROOT, place, ignore=shutil.ignore_patterns(*NOT_SOURCES, 'must-fail'))
+    os.makedirs(place + '/crates/patricia_keys/must-fail')
+    shutil.copy(__file__, place + '/crates/patricia_keys/must-fail')
     git(place, 'init', '-q')
     git(place, 'add', '-A')
     git(place, 'commit', '-qm', 'Sources')
+    due.record(place, dict.fromkeys(crates.listed(place), (0, 0)))
+    git(place, 'add', '-A')
+    git(place, 'commit', '-qm', 'Record')
     return git(place, 'rev-parse', 'HEAD').strip()
 
 
@@ -246,6 +253,13 @@ class Refusals(Case):
     def record(self, commit, line):
         with open(os.path.join(self.kept, gate.RECORD), 'w', encoding='utf-8') as file:
             json.dump({'commit': commit, 'kit': 'none', 'line': line, 'sums': gate.sums(self.kept)}, file)
+
+    def test_refuses_where_mutants_are_due(self):
+        path = os.path.join(self.place, 'packaging', 'mutants.json')
+        git(self.place, 'rm', '-q', path)
+        git(self.place, 'commit', '-qm', 'no record')
+        self.addCleanup(git, self.place, 'reset', '-q', '--hard', self.commit)
+        self.assert_refused('mutants of these crates are due', 'patricia_keys')
 
     def dist(self, *words):
         """Makes the package of the sources alone, from the checkout."""

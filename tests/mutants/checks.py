@@ -1,8 +1,8 @@
 """What the prover says of a crate with other texts in place of its own.
 
-No command of rt says it over the libraries that an rt ci has built. Those hold statements alone
-and have no stamp, and without a stamp each other command of rt builds, and so proves, them all
-anew. So the prover is called here, and here alone, by words that 'rattle check --help' explains.
+No command of rt says it over the libraries that an rt ci has built. Those hold statements alone and have no stamp, and
+without a stamp each other command of rt builds, and so proves, them all anew. So the prover is called here, and here
+alone, by words that 'rattle check --help' explains.
 """
 import os
 import re
@@ -11,18 +11,22 @@ import tempfile
 from typing import NamedTuple
 
 from tests import crates as listing
-from tests.mutants.edits import read
 
 NO_FUNCTION = '-'
 SEARCHED = 'it is not proved that'
 SHOWN_FALSE = 'allow values at which this goal is false'
 NO_PROOF = '`search`: no proof of'
 GONE = re.compile(r'has no field|\(nearest: |is not in scope|has no `|was not admitted|is no name'
-                  r'|operand is missing|expected the end|cannot continue'
-                  r'|differ only where one has `c\.\S+` and the other has `c\.')
+                  r'|operand is missing|expected the end|cannot continue')
+# where a proof and its goal differ, and a name of the code that may stand there
+DIFFERENCE = re.compile(r'differ (?:only )?where one has `([^`]*)` ?(?:\(expected\))?(?:,? right after `[^`]*`)?,?'
+                        r' and the other has `([^`]*)`')
+NAME_OF_CODE = re.compile(r'c\.[\w.-]+')
 NOTE = re.compile(r'note: (?:\./)?(\S+?:\d+):\d+: (.*)')
 ERROR = re.compile(r'(?:\./)?(\S+?:\d+):\d+: error: (.*)')
 VERDICT = re.compile(r'fn \w+::(\S+): (.*)')
+CALLEE = re.compile(r'it calls `|waits? for (?:a|the) callee')
+NOT_TRIED = re.compile(r'note: `search` has not tried the goals of (.*), which wait')
 ENDED = re.compile(r'only=(\d+) proved=(\d+)|logic=(proved|not-proved)\b')
 NAMED = re.compile(r'.*?\(`([^`]*)`\)|`([^`]*)`')
 
@@ -30,9 +34,9 @@ NAMED = re.compile(r'.*?\(`([^`]*)`\)|`([^`]*)`')
 class Failure(NamedTuple):
     """A goal that fails: its function, if it is not that of a lemma, its name, and where.
 
-    The prover may show it false, by values. Else a search or a proof file has no proof of it, as
-    they may have none of a goal that is true, and an error at a name that is gone says nothing of
-    the goal.
+    The prover may show it false, by values. Else a search or a proof file has no proof of it, as they may have none of
+    a goal that is true. An error at a name that is gone, or that stands where the goal has another name of the code,
+    says nothing of the goal.
     """
     function: str
     name: str
@@ -54,12 +58,13 @@ class Check:
         asked, proved, whole = self.ended.groups() if self.ended else (None, None, None)
         self.is_refused = asked != proved or whole == 'not-proved'
         self.failures = list(self.failing())
-        verdicts = [x for x in map(VERDICT.match, self.lines) if x]
-        self.unproved = [x[1] for x in verdicts if x[2] != 'proved']
+        untried = [y for x in map(NOT_TRIED.match, self.lines) if x for y in re.findall(r'`\w+::([^`]*)`', x[1])]
+        # the functions of which a failure may be due to a callee that is not proved
+        self.waiting = {*untried, *(x[1] for x in map(VERDICT.match, self.lines) if x and CALLEE.search(x[2]))}
 
     def failing(self):
-        """The goals that fail. A note stands above the verdict on its function, and an error in a
-        proof file lies in the folder of its function."""
+        """The goals that fail. A note stands above the verdict on its function, and an error in a proof file lies in
+        the folder of its function."""
         notes = []
         for line in self.lines:
             note, error, verdict = (x.match(line) for x in (NOTE, ERROR, VERDICT))
@@ -86,8 +91,16 @@ def failure(function, said, is_false):
     """The failure of which a message tells. It names the goal in brackets, or else first."""
     place, text = said.groups()
     name = NAMED.match(text)
-    is_by_name = bool(GONE.search(text)) and NO_PROOF not in text
-    return Failure(function, (name[1] or name[2]) if name else '?', place, is_false, is_by_name)
+    return Failure(function, (name[1] or name[2]) if name else '?', place, is_false, is_by_name(text))
+
+
+def is_by_name(text):
+    """Whether a message says of a goal only that its proof names something else."""
+    if NO_PROOF in text:
+        return False
+    differences = DIFFERENCE.findall(text)
+    named = [all(map(NAME_OF_CODE.fullmatch, x)) for x in differences]
+    return bool(GONE.search(text)) or bool(named) and all(named)
 
 
 def function_of(folder):
@@ -99,12 +112,10 @@ def function_of(folder):
 class Prover:
     """The prover, over the libraries in a folder's crates/*/out and those of the toolchain."""
 
-    def __init__(self, crates, folder, is_last=False):
+    def __init__(self, crates, folder):
         self.crates = crates
         self.folder = folder
         self.kit = listing.kit()
-        # a check gives way to all else that runs, the archive for which tests wait does not
-        self.after_others = ['nice', '-n', '19'] if is_last else []
 
     def library(self, name):
         """Where a library lies as it was built."""
@@ -119,11 +130,10 @@ class Prover:
     def words(self, sources):
         """What it is told of a crate."""
         crate = sources.crate
-        libraries = self.libraries(crate)
         words = ['--crate-name', crate.name, sources.root()]
         for name in ['std', *crate.uses]:
             words += ['--extern', '%s=%s' % (name, self.library(name))]
-        for there in [self.kit + '/rlibs', *map(os.path.dirname, libraries)]:
+        for there in [self.kit + '/rlibs', *map(os.path.dirname, self.libraries(crate))]:
             words += ['-L', 'dependency=' + there]
         words += ['--crate-type', 'staticlib'] * crate.is_static
         words += ['--antt-project', self.kit + '/rattle/logic/antt-project.json']
@@ -137,24 +147,11 @@ class Prover:
                 with open(os.path.join(room, path), 'w', encoding='utf-8') as file:
                     file.write(text)
             words = [self.kit + '/bin/rattle', verb, *self.words(sources), *more]
-            before = self.after_others if verb == 'check' else []
-            ran = subprocess.run([*before, *words], cwd=room, stdin=subprocess.DEVNULL, check=False,
-                                 stdout=subprocess.PIPE, stderr=subprocess.STDOUT,
-                                 encoding='utf-8', errors='replace')
+            ran = subprocess.run(words, cwd=room, stdin=subprocess.DEVNULL, check=False, stdout=subprocess.PIPE,
+                                 stderr=subprocess.STDOUT, encoding='utf-8', errors='replace')
         return ran.stdout
 
     def check(self, sources, texts, work, functions=()):
         """A check of these functions, or of all, over what earlier ones left in a folder."""
         only = [x for function in sorted(functions) for x in ('--only', function)]
         return Check(self.run('check', sources, texts, '--incremental', work, *only))
-
-    def archive(self, sources, work, path):
-        """Builds a static library, which has its name once it is whole. Returns what was said."""
-        part = path + '.part'
-        for old in [x for x in (part, path) if os.path.exists(x)]:
-            os.remove(old)
-        said = self.run('build', sources, {}, '--incremental', work, '--backend', 'llvm',
-                        '--toolchain', self.kit + '/toolchain', '-o', part)
-        if os.path.exists(part):
-            os.replace(part, path)
-        return Check(said)

@@ -1,19 +1,20 @@
 """The edits of crates/*/must-fail, what they turn, and which of them one check can try.
 
-An edit is a file with lines 'file:', 'old:' and 'new:', as rt reads them, and a line that rt
-passes over:
+An edit is a file with lines 'file:', 'old:' and 'new:', as rt reads them, and a line that rt passes over:
 
     goal: FUNCTION GOAL
 
-It names a function as a check does after 'fn', without the crate's name, and the goal of it that
-fails with the edit, or a lemma for it that stands in a file right in proofs/. With a third word,
-'read', someone has read why the goal is false with the edit. Without it the prover has to show so
-at each run, by values: that it has no proof of a goal may be so of a right body, too, and so may it
-be that values break a goal behind a loop that the edit brings in.
+It names a function as a check does after 'fn', without the crate's name, and the goal of it that fails with the edit,
+or a lemma for it that stands in a file right in proofs/. With the word 'read' after them someone has read why the goal
+is false with the edit. Without it the prover has to show so at each run, by values: that it has no proof of a goal may
+be so of a right body, too, and so may it be that values break a goal behind a loop that the edit brings in. With the
+word 'searched' the goal's answer is taken out of the proof, which names what the edit replaces, and search tries it.
 """
 import os
 import re
 from typing import NamedTuple
+
+from tests.mutants.checks import function_of
 
 MOST_IN_ONE = 64
 PARTS = 'src', 'specs', 'proofs'
@@ -36,6 +37,10 @@ class Goal(NamedTuple):
     def __str__(self):
         return '%s %s' % self
 
+    def bare(self):
+        """The function's name, without what it stands in."""
+        return self.function.split('::')[-1]
+
 
 class Sources:
     """The files of a crate that a check reads, by their paths in its folder."""
@@ -54,22 +59,18 @@ class Sources:
         return 'src/main.rt' if 'src/main.rt' in self.texts else 'src/lib.rt'
 
     def edits(self):
-        """The edits of its folder must-fail, where nothing else stands but pages to be read."""
+        """The edits of its folder must-fail, and its lines of code that a comment 'refused:' holds."""
         there = os.path.join(self.folder, 'must-fail')
         names = sorted(os.listdir(there)) if os.path.isdir(there) else []
-        return [Edit(os.path.join(there, x)) for x in names if not x.endswith('.md')]
+        lines = [Line(file, at + 1) for file, text in sorted(self.texts.items()) if file.startswith('src/')
+                 for at, line in enumerate(text.split('\n')) if REFUSED in line]
+        return [*lines, *(Edit(os.path.join(there, x)) for x in names if x.endswith('.edit'))]
 
-    def lines(self):
-        """Its lines of code that a comment 'refused:' holds."""
-        for file, text in sorted(self.texts.items()):
-            for at, line in enumerate(text.split('\n')):
-                if file.startswith('src/') and REFUSED in line:
-                    yield Line(file, at + 1)
-
-    def function_at(self, file, number):
-        """The name of the function of which a line of a file is code, or None."""
+    def function_at(self, file, old):
+        """The name of the function of whose code a text is a part, or None."""
+        text = self.texts.get(file, '') if file.startswith('src/') else ''
         name = depth = is_code = None
-        for line in self.texts[file].split('\n')[:number] if file.startswith('src/') else []:
+        for line in text[:text.find(old) + len(old)].split('\n'):
             head = FUNCTION.match(line)
             if head:
                 depth, name, is_code = *head.groups(), line.endswith('{')
@@ -79,6 +80,11 @@ class Sources:
                 name = None
         return name if is_code else None
 
+    def answers(self, function):
+        """The file and the text of the answers to a function's goals."""
+        files = [x for x in self.texts if x.endswith('/Answers.antt') and function_of(os.path.dirname(x)) == function]
+        return files[0], self.texts[files[0]]
+
     def word_at(self, file, old):
         """The word of specs/ in whose definition a text stands, or None."""
         text = self.texts.get(file, '')
@@ -86,8 +92,7 @@ class Sources:
         return words[-1] if words else None
 
     def namings(self, word, function):
-        """How often the texts name a word, but for the lines that define it, and for the proof of
-        this function."""
+        """How often the texts name a word, but for the lines that define it, and for the proof of this function."""
         own, defined = '/%s/' % function, re.compile(DEFINES % (word, word), re.M)
         texts = [text for path, text in self.texts.items() if own not in path]
         bare = [defined.sub('', USE.sub('', COMMENT.sub('', x))) for x in texts]
@@ -98,13 +103,10 @@ class Edit:
     """A change of lines: the file of each, what is there, and what is put there."""
 
     def __init__(self, path):
-        self.path = path
         self.name = os.path.basename(path)
-        self.text = read(path)
-        self.changes = []
-        self.goal, self.is_read = None, False
+        self.changes, self.goal, self.marks = [], None, []
         file = old = None
-        for line in self.text.split('\n'):
+        for line in read(path).split('\n'):
             word, _, rest = line.partition(':')
             rest = rest.removeprefix(' ')
             if word == 'file':
@@ -114,8 +116,8 @@ class Edit:
             elif word == 'new':
                 self.changes.append((file, old, rest))
             elif word == 'goal' and len(rest.split()) >= 2:
-                function, goal, *marks = rest.split()
-                self.goal, self.is_read = Goal(function, goal), marks == ['read']
+                function, goal, *self.marks = rest.split()
+                self.goal = Goal(function, goal)
 
     def texts(self, sources, texts):
         """These texts of the sources with the change made, or None where it does not apply."""
@@ -125,36 +127,30 @@ class Edit:
             if not old or text.count(old) != 1:
                 return None
             texts[file] = text.replace(old, new)
+        if 'searched' in self.marks:
+            file, text = sources.answers(self.goal.function)
+            texts[file] = re.sub(r'^pub %s : .*?(?=^pub |\Z)' % self.goal.name, '', text, flags=re.M | re.S)
         return texts
-
-    def turns(self, sources):
-        """The files and names of the functions whose code it turns, or none if it turns anything
-        else."""
-        found = set()
-        for file, old, _ in self.changes:
-            text = sources.texts.get(file, '')
-            name = sources.function_at(file, text[:text.find(old) + len(old)].count('\n') + 1)
-            found.add((file, name))
-        return found if all(name for _, name in found) else set()
 
     def loops(self):
         """Whether it brings in a loop, of which nothing is known but what an invariant says."""
         return any(LOOP.search(new) for _, _, new in self.changes)
 
     def is_apart(self, sources):
-        """Whether it opens goals of its own function alone. Code does, and so does the promise of
-        a function that nothing else names, and a definition that this promise alone names."""
-        function = self.goal.function.split('::')[-1]
-        words = {sources.word_at(file, old) for file, old, _ in self.changes}
-        if self.turns(sources):
+        """Whether it opens goals of its own function alone. Code of it does, and so does the promise of a function that
+        nothing else names, and a definition that this promise alone names."""
+        function = self.goal.bare()
+        places = [(file, old) for file, old, _ in self.changes]
+        if all(sources.function_at(*x) == function for x in places):
             return True
+        words = {sources.word_at(*x) for x in places}
         if words == {None}:
-            return sources.namings(function, function) == 0
+            return not any(sources.function_at(*x) for x in places) and sources.namings(function, function) == 0
         return all(x and sources.namings(x, function) == 1 for x in words)
 
 
 class Line(NamedTuple):
-    """A line of code that a comment holds."""
+    """A line of code that a comment holds, since it breaks the rules of borrows."""
     file: str
     number: int
 
@@ -162,11 +158,7 @@ class Line(NamedTuple):
     def name(self):
         return 'line %d of %s' % (self.number, self.file)
 
-    @property
-    def text(self):
-        return self.name
-
-    def texts(self, sources):
+    def texts(self, sources, _):
         """The text of its file with it as code."""
         lines = sources.texts[self.file].split('\n')
         lines[self.number - 1] = lines[self.number - 1].replace(REFUSED, '')
@@ -174,31 +166,33 @@ class Line(NamedTuple):
 
 
 class Pack:
-    """Edits that one check tries, and the texts with all of them made."""
+    """Edits that one check tries, of which each opens goals of another function or stands alone, and the texts with all
+    of them made."""
 
-    def __init__(self, edits=(), texts=(), turned=()):
-        self.edits = list(edits)
-        self.texts = dict(texts)
-        self.turned = {*turned}
+    def __init__(self, edit, sources):
+        self.edits = [edit]
+        self.texts = edit.texts(sources, {})
+        is_apart = isinstance(edit, Edit) and edit.goal and edit.is_apart(sources)
+        self.functions = {edit.goal.function} if is_apart else set()
 
-    def takes(self, edit, sources, turned):
-        """Adds an edit that turns these, if none of the others turns them too."""
-        both = edit.texts(sources, self.texts)
-        if len(self.edits) == MOST_IN_ONE or turned & self.turned or both is None:
+    def takes(self, other, sources):
+        """Adds the edit of another pack, if it can."""
+        edit = other.edits[0]
+        both = edit.texts(sources, self.texts) if self.functions and other.functions else None
+        if both is None or len(self.edits) == MOST_IN_ONE or self.functions & other.functions:
             return False
         self.edits.append(edit)
         self.texts = both
-        self.turned |= turned
+        self.functions |= other.functions
         return True
 
 
-def packs(edits, sources, turned):
-    """Edits in packs. Those that turn nothing, by this function, stand alone."""
+def packs(edits, sources):
+    """Edits in packs."""
     made = []
-    for edit in edits:
-        those = turned(edit)
-        if not those or not any(x.turned and x.takes(edit, sources, those) for x in made):
-            made.append(Pack([edit], edit.texts(sources, {}) or {}, those))
+    for pack in [Pack(x, sources) for x in edits]:
+        if not any(x.takes(pack, sources) for x in made):
+            made.append(pack)
     return made
 
 
