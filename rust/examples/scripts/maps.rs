@@ -120,7 +120,7 @@ fn lent<K: Kind>(mut cursor: Cursor<'_, K, u64>) -> Vec<String> {
     entries
 }
 
-fn first<'a, K: Kind>(found: Option<(K, &'a u64)>) -> String {
+fn first<K: Kind>(found: Option<(K, &u64)>) -> String {
     shown(found.map(|(key, value)| entry((key, *value))))
 }
 
