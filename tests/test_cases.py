@@ -1,4 +1,4 @@
-"""The cases of `ptree`, and `ptree` and `test_scripts` on many keys, against the independent model."""
+"""The cases of `ptree`, also on many keys, against the independent model."""
 import os
 import shutil
 from tests.oracle import make_cases, model
@@ -31,17 +31,13 @@ class Cases(Case):
 
 
 class Large(Case):
-    """No command and no call is out of memory on 200,000 keys where there is memory enough."""
+    """No command is out of memory on 200,000 keys where there is memory enough."""
 
-    @classmethod
-    def setUpClass(cls):
-        cls.room = folder(cls.addClassCleanup)
-        made('make_large', cls.room)
-
-    @each(('ptree', 'ptree', 'bytes'), ('test_scripts', 'maps'), ('test_scripts', 'sets'))
-    def keys(self, program, name, *words):
-        data, output = (read(self.room, name + end) for end in ('.in', '.out'))
-        self.assert_ends(run([self.program(program), *words], data), output)
+    def test_many_keys(self):
+        room = folder(self.addCleanup)
+        made('make_large', room)
+        data, output = (read(room, 'ptree' + end) for end in ('.in', '.out'))
+        self.assert_ends(run([self.program('ptree'), 'bytes'], data), output)
 
 
 class Files(Case):

@@ -4,7 +4,7 @@
 #include <patricia.h>
 #include <string.h>
 
-enum { ROOM = 1 << 26, WORDS = 1 << 18, NO_ANSWER = 77, MOST = 1 << 18 };
+enum { ROOM = 1 << 26, WORDS = 1 << 19, NO_ANSWER = 77, MOST = 1 << 18 };
 
 typedef struct {
     const uint8_t *at;

@@ -146,7 +146,7 @@ static void add_old(const asked *a, uint32_t result, uint64_t old, uint32_t yes)
 
 static uint32_t insert(asked *a)
 {
-    for (size_t at = 0; at < count; at += step_of(a)) {
+    for (size_t at = 0; at + step_of(a) <= count; at += step_of(a)) {
         uint64_t old = NO_ANSWER;
         uint32_t result = put(a, &a->map, words[at], value_at(a, at), &old);
         if (result == PATRICIA_NO_MEMORY)
@@ -186,7 +186,8 @@ static uint32_t take_many(asked *a, bool is_new)
     patricia_map made = PATRICIA_MAP_INIT;
     uint64_t old, taken = 0;
     uint32_t result = PATRICIA_DONE;
-    for (size_t at = 0; at < count && result != PATRICIA_NO_MEMORY; at += step_of(a), taken++)
+    for (size_t at = 0; at + step_of(a) <= count && result != PATRICIA_NO_MEMORY;
+         at += step_of(a), taken++)
         result = put(a, is_new ? &made : &a->map, words[at], value_at(a, at), &old);
     if (!is_new)
         add_number(taken);
@@ -206,7 +207,7 @@ static uint32_t take_many(asked *a, bool is_new)
 static uint32_t load(asked *a, size_t from, size_t *loaded)
 {
     size_t size = 0, n = 0;
-    for (size_t at = from; at < count; at += step_of(a), n++) {
+    for (size_t at = from; at + step_of(a) <= count; at += step_of(a), n++) {
         memcpy(key_room + size, words[at].at, words[at].len);
         lens[n] = words[at].len;
         values[n] = value_at(a, at);

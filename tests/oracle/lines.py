@@ -2,7 +2,7 @@
 Rust package and the library for C read. A program that lacks some calls says which it has."""
 import random
 from itertools import product
-from tests.oracle import make_damage, make_deep, make_encodings, make_labels, make_near, make_order
+from tests.oracle import make_damage, make_deep, make_encodings, make_labels, make_large, make_near, make_order
 from tests.oracle.answer_lines import KINDS, answers, calls
 from tests.support import read
 
@@ -46,7 +46,7 @@ def committed():
 
 MADE = {'committed': committed, 'decimals': decimals, 'labels': make_labels.lines, 'near': make_near.lines,
         'order': make_order.lines, 'chance': chance, 'encodings': make_encodings.lines,
-        'damage': make_damage.lines}
+        'damage': make_damage.lines, 'large': make_large.lines}
 
 
 def made(name, offered=None):

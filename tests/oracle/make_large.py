@@ -1,4 +1,4 @@
-"""Makes inputs over some 200,000 keys, and what the programs must answer to them.
+"""Inputs over some 200,000 keys, and what `ptree` must answer to them.
 
     python3 -B -m tests.oracle.make_large FOLDER
 
@@ -7,12 +7,10 @@ entries would meet its contract, so these inputs make each command and each call
 more entries than such a number is likely to be. They run with all the memory there is, so that no
 answer is an allocation failure.
 
-ptree.in is for `ptree bytes`, maps.in and sets.in for `test_scripts`. Each NAME.out is the answer by
-the plain models, model.py and answer_lines.py.
+ptree.in is for `ptree bytes`, and ptree.out the answer by model.py. Lines are for `test_scripts`.
 """
 import os
 import sys
-from tests.oracle.answer_lines import answers, calls
 from tests.oracle.make_cases import write
 from tests.oracle.model import answer, tree_bytes
 from tests.oracle.words import written
@@ -53,7 +51,7 @@ def map_calls(keys, prefix):
     words = [text.decode() for text in keys]
     pairs = ['%s %d' % (word, n) for n, word in enumerate(words)]
     half = COUNT // 2
-    tree, values = tree_bytes(keys, 'bytes'), [str(n) for n, _ in enumerate(keys)]
+    tree, values = tree_bytes(dict.fromkeys(keys), 'bytes'), [str(n) for n, _ in enumerate(keys)]
     return ['extend ' + ' '.join(pairs[:half]), 'insert ' + ' '.join(pairs[half:]), 'iter', 'keys', 'values',
             'get ' + ' '.join(words[::100]), *changes(prefix, tree, values), 'from_iter ' + ' '.join(pairs),
             'remove ' + ' '.join(words[::2]), 'extend ' + ' '.join(pairs[1::3]), 'len']
@@ -64,25 +62,15 @@ def set_calls(keys, prefix):
     words = [text.decode() for text in keys]
     half = COUNT // 2
     return ['extend ' + ' '.join(words[:half]), 'insert ' + ' '.join(words[half:]), 'iter',
-            'contains ' + ' '.join(words[::100]), *changes(prefix, tree_bytes(keys, 'text'), [str(COUNT)]),
+            'contains ' + ' '.join(words[::100]), *changes(prefix, tree_bytes(dict.fromkeys(keys), 'text'), [str(COUNT)]),
             'from_iter ' + ' '.join(words), 'remove ' + ' '.join(words[::2]), 'extend ' + ' '.join(words[1::3]),
             'len']
 
 
-def answered(m, kind, call, words, keys):
-    """The answers to a call. What is read is the encoding of all keys, so they need no decoder."""
-    if call != 'read':
-        return answers(m, kind, call, words)
-    m.clear()
-    m.update((key, n) for n, key in enumerate(sorted(keys)))
-    return answers(m, kind, 'iter', [])
-
-
-def lines_of(kind, made, keys):
-    """The lines of calls of one kind, and the lines that they must be answered by."""
-    lines, m = ['%s %s' % (kind, call) for call in made], {}
-    told = [line + ': ' + ' '.join(answered(m, kind, call, words, keys)) for line, call, words in calls(lines, kind)]
-    return ['\n'.join([*each, '']).encode() for each in (lines, told)]
+def lines():
+    """The lines of maps and of sets."""
+    yield from ('bytes ' + call for call in map_calls(keys_in_order(b'a', b'b'), 'a'))
+    yield from ('text_set ' + call for call in set_calls(keys_in_order('あ'.encode(), 'い'.encode()), 'あ'))
 
 
 def main(folder):
@@ -90,14 +78,6 @@ def main(folder):
     data = commands(keys, b'a')
     write(os.path.join(folder, 'ptree.in'), data)
     write(os.path.join(folder, 'ptree.out'), answer('bytes', data))
-    texts = keys_in_order('あ'.encode(), 'い'.encode())
-    for name, kind, made, known in (
-        ('maps', 'bytes', map_calls(keys, 'a'), keys),
-        ('sets', 'text_set', set_calls(texts, 'あ'), texts),
-    ):
-        lines, told = lines_of(kind, made, known)
-        write(os.path.join(folder, name + '.in'), lines)
-        write(os.path.join(folder, name + '.out'), told)
 
 
 if __name__ == '__main__':

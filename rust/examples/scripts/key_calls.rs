@@ -25,33 +25,33 @@ pub fn answer<K: Kind>(call: &str, words: &[Vec<u8>]) -> Option<Vec<String>> {
         return Some(vec!["none".to_string()]);
     };
     Some(match call {
-        "common" => {
-            let (rest, len) = key.strip_common_prefix_and_len(other);
-            let again = key.strip_common_prefix(other);
-            let is_empty = rest.is_empty().to_string();
-            vec![
-                len.to_string(),
-                written(rest.as_bytes()),
-                written(again.as_bytes()),
-                is_empty,
-            ]
-        }
+        "common" => common::<K>(key, other),
         "first" if !K::Part::is_valid_bytes(other) => vec!["none".to_string()],
         "first" => vec![match key.cmp_first_item(other) {
             Ordering::Less => "less".to_string(),
             Ordering::Equal => "equal".to_string(),
             Ordering::Greater => "greater".to_string(),
         }],
-        "halves" => match bytes.get(..number(other) as usize) {
-            Some(front) if K::Part::is_valid_bytes(front) => {
-                let (front, rest) = (
-                    key.keep_n_prefix(front.len()),
-                    key.strip_n_prefix(front.len()),
-                );
-                vec![written(front.as_bytes()), written(rest.as_bytes())]
-            }
-            _ => vec!["none".to_string()],
-        },
+        "halves" => halves::<K>(key, number(other) as usize),
         _ => return None,
     })
+}
+
+// The length in common, the rest as both calls give it, and whether it is empty.
+fn common<K: Kind>(key: &K::Part, other: &[u8]) -> Vec<String> {
+    let (rest, len) = key.strip_common_prefix_and_len(other);
+    let again = written(key.strip_common_prefix(other).as_bytes());
+    let is_empty = rest.is_empty().to_string();
+    vec![len.to_string(), written(rest.as_bytes()), again, is_empty]
+}
+
+// The first bytes of a key and the others, if the first are whole items.
+fn halves<K: Kind>(key: &K::Part, n: usize) -> Vec<String> {
+    match key.as_bytes().get(..n) {
+        Some(front) if K::Part::is_valid_bytes(front) => {
+            let (front, rest) = (key.keep_n_prefix(n), key.strip_n_prefix(n));
+            vec![written(front.as_bytes()), written(rest.as_bytes())]
+        }
+        _ => vec!["none".to_string()],
+    }
 }

@@ -3,7 +3,7 @@
 use crate::words::{drained, key, keys, number, pairs, row, shown, written};
 use crate::{Answering, Kind, encodings, key_calls};
 use patricia::map::Cursor;
-use patricia::{BorrowedBytes, DecodeError, GenericPatriciaMap};
+use patricia::{BorrowedBytes, GenericPatriciaMap};
 use std::mem;
 
 /// A map that answers calls.
@@ -90,7 +90,8 @@ impl<K: Kind> Answering for Map<K> {
             .or_else(|| self.change_values(call, words))
             .or_else(|| self.take_many(call, words))
             .or_else(|| self.part(call, words))
-            .or_else(|| self.encode(call, words))
+            .or_else(|| self.read(call, words))
+            .or_else(|| self.encode(call))
             .or_else(|| self.walk(call, words))
             .or_else(|| self.ask(call, words))
             .or_else(|| self.ask_prefixes(call, words))
@@ -119,7 +120,7 @@ fn lent<K: Kind>(mut cursor: Cursor<'_, K, u64>) -> Vec<String> {
     entries
 }
 
-fn first<'a, K: Kind>(found: Option<(K, &'a u64)>) -> String {
+fn first<K: Kind>(found: Option<(K, &u64)>) -> String {
     shown(found.map(|(key, value)| entry((key, *value))))
 }
 
@@ -150,6 +151,7 @@ impl<K: Kind> Map<K> {
                 map.clear();
                 vec![]
             }
+            "fronts" => self.put_fronts(words),
             "take" => drained(mem::take(map).into_iter())
                 .into_iter()
                 .map(entry)
@@ -233,15 +235,16 @@ impl<K: Kind> Map<K> {
                 });
                 self.counted(count)
             }
-            "fronts" => {
-                for word in words {
-                    let fronts = (1..=word.len()).map(|n| (key::<K>(&word[..n]), n as u64));
-                    map.extend(fronts.filter_map(|(key, n)| Some((key?, n))));
-                }
-                vec![]
-            }
             _ => return None,
         })
+    }
+
+    fn put_fronts(&mut self, words: &[Vec<u8>]) -> Vec<String> {
+        for word in words {
+            let fronts = (1..=word.len()).map(|n| (key::<K>(&word[..n]), n as u64));
+            self.0.extend(fronts.filter_map(|(key, n)| Some((key?, n))));
+        }
+        vec![]
     }
 
     fn part(&mut self, call: &str, words: &[Vec<u8>]) -> Option<Vec<String>> {
@@ -267,47 +270,33 @@ impl<K: Kind> Map<K> {
         Some(parts.concat())
     }
 
-    fn become_read(
-        &mut self,
-        read: Result<GenericPatriciaMap<K, u64>, DecodeError>,
-    ) -> Vec<String> {
-        match read {
-            Ok(map) => {
-                self.0 = map;
-                self.rows()
+    fn read(&mut self, call: &str, words: &[Vec<u8>]) -> Option<Vec<String>> {
+        let values = || words[1..].iter().map(|word| number(word)).collect();
+        let numbers = || (1..=number(&words[1])).collect();
+        let read = match call {
+            "read" => GenericPatriciaMap::try_from_tree_bytes(&words[0], values()),
+            "read_wide" => GenericPatriciaMap::try_from_wide_tree_bytes(&words[0], values()),
+            "open" => GenericPatriciaMap::from_tree_bytes(&words[0], numbers()),
+            "open_wide" => GenericPatriciaMap::from_wide_tree_bytes(&words[0], numbers()),
+            _ => return None,
+        };
+        Some(match read {
+            Ok(read) => {
+                self.0 = read;
+                if call.starts_with("read") {
+                    self.rows()
+                } else {
+                    vec![self.0.len().to_string()]
+                }
             }
             Err(fault) => vec![fault.to_string()],
-        }
+        })
     }
 
-    fn encode(&mut self, call: &str, words: &[Vec<u8>]) -> Option<Vec<String>> {
-        let (map, values) = (&self.0, || {
-            words[1..].iter().map(|word| number(word)).collect()
-        });
+    fn encode(&mut self, call: &str) -> Option<Vec<String>> {
+        let map = &self.0;
         let is_wide = call.ends_with("_wide");
         let tree = match call {
-            "read" => {
-                let read = GenericPatriciaMap::from_tree_bytes(&words[0], values());
-                return Some(self.become_read(read));
-            }
-            "read_wide" => {
-                let read = GenericPatriciaMap::try_from_wide_tree_bytes(&words[0], values());
-                return Some(self.become_read(read));
-            }
-            "open" | "open_wide" => {
-                let values = (1..=number(&words[1])).collect();
-                let open = match is_wide {
-                    true => GenericPatriciaMap::from_wide_tree_bytes(&words[0], values),
-                    false => GenericPatriciaMap::from_tree_bytes(&words[0], values),
-                };
-                return Some(vec![match open {
-                    Ok(open) => {
-                        self.0 = open;
-                        self.0.len().to_string()
-                    }
-                    Err(fault) => fault.to_string(),
-                }]);
-            }
             "tree" | "size" | "reload" => map.try_tree_bytes(),
             "tree_wide" | "size_wide" | "reload_wide" => map.try_wide_tree_bytes(),
             _ => return None,

@@ -3,7 +3,7 @@
 use crate::words::{drained, key, keys, number, shown, written};
 use crate::{Answering, Kind, encodings};
 use patricia::map::Cursor;
-use patricia::{BorrowedBytes, DecodeError, GenericPatriciaSet};
+use patricia::{BorrowedBytes, GenericPatriciaSet};
 use std::mem;
 
 /// A set that answers calls.
@@ -74,7 +74,8 @@ impl<K: Kind> Answering for Set<K> {
         self.change(call, words)
             .or_else(|| self.take_many(call, words))
             .or_else(|| self.part(call, words))
-            .or_else(|| self.encode(call, words))
+            .or_else(|| self.read(call, words))
+            .or_else(|| self.encode(call))
             .or_else(|| self.compare(call, words))
             .or_else(|| self.ask(call, words))
             .or_else(|| self.ask_each(call, words))
@@ -190,42 +191,33 @@ impl<K: Kind> Set<K> {
         Some(parts.concat())
     }
 
-    fn become_read(&mut self, read: Result<GenericPatriciaSet<K>, DecodeError>) -> Vec<String> {
-        match read {
-            Ok(set) => {
-                self.0 = set;
-                self.rows()
+    fn read(&mut self, call: &str, words: &[Vec<u8>]) -> Option<Vec<String>> {
+        let values = || number(&words[1]) as usize;
+        let numbers = || number(&words[1]) as usize;
+        let read = match call {
+            "read" => GenericPatriciaSet::try_from_tree_bytes(&words[0], values()),
+            "read_wide" => GenericPatriciaSet::try_from_wide_tree_bytes(&words[0], values()),
+            "open" => GenericPatriciaSet::from_tree_bytes(&words[0], numbers()),
+            "open_wide" => GenericPatriciaSet::from_wide_tree_bytes(&words[0], numbers()),
+            _ => return None,
+        };
+        Some(match read {
+            Ok(read) => {
+                self.0 = read;
+                if call.starts_with("read") {
+                    self.rows()
+                } else {
+                    vec![self.0.len().to_string()]
+                }
             }
             Err(fault) => vec![fault.to_string()],
-        }
+        })
     }
 
-    fn encode(&mut self, call: &str, words: &[Vec<u8>]) -> Option<Vec<String>> {
-        let (set, count) = (&self.0, || number(&words[1]) as usize);
+    fn encode(&mut self, call: &str) -> Option<Vec<String>> {
+        let set = &self.0;
         let is_wide = call.ends_with("_wide");
         let tree = match call {
-            "read" => {
-                let read = GenericPatriciaSet::try_from_tree_bytes(&words[0], count());
-                return Some(self.become_read(read));
-            }
-            "read_wide" => {
-                let read = GenericPatriciaSet::from_wide_tree_bytes(&words[0], count());
-                return Some(self.become_read(read));
-            }
-            "open" | "open_wide" => {
-                let values = number(&words[1]) as usize;
-                let open = match is_wide {
-                    true => GenericPatriciaSet::from_wide_tree_bytes(&words[0], values),
-                    false => GenericPatriciaSet::from_tree_bytes(&words[0], values),
-                };
-                return Some(vec![match open {
-                    Ok(open) => {
-                        self.0 = open;
-                        self.0.len().to_string()
-                    }
-                    Err(fault) => fault.to_string(),
-                }]);
-            }
             "tree" | "size" | "reload" => set.try_tree_bytes(),
             "tree_wide" | "size_wide" | "reload_wide" => set.try_wide_tree_bytes(),
             _ => return None,
