@@ -28,11 +28,13 @@ fn are_answered<Q: BorrowedBytes>(
 
 const STORED: [&str; 3] = ["", "あ", "あいうえおかきくけこさし"];
 
+const BYTES: [&[u8]; 3] = [b"", b"bar", b"bar bar bar bar bar bar bar bar bar foo foo"];
+
 // Whether thousands of keys are answered.
 fn are_thousands_answered(alloc: Global) -> Result<bool, AllocError> {
-    let map = map_of(alloc, &STORED)?;
-    let set = set_of(alloc, &STORED)?;
-    Ok(are_answered(&map, &set, &["あい"; 5_000]))
+    let map = map_of(alloc, &BYTES)?;
+    let set = set_of(alloc, &BYTES)?;
+    Ok(are_answered(&map, &set, &[b"bar".as_slice(); 5_000]))
 }
 
 // An allocation failure that did not happen meets the contracts.
