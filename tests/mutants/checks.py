@@ -81,6 +81,12 @@ class Check:
         owners = goal.function, NO_FUNCTION
         return [x for x in self.failures if x.function in owners and x.name == goal.name]
 
+    def meant(self, goal):
+        """Those that tell that it fails by its meaning. What a proof says that names something else tells nothing."""
+        found = self.of(goal)
+        is_by_name = any(x.is_by_name for x in found)
+        return [x for x in found if not is_by_name or not x.place.startswith('proofs/')]
+
     def text(self):
         """What it refused first, and its last line."""
         refused = [x for x in self.lines if ERROR.match(x) or x.startswith('error')]
