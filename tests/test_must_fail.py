@@ -109,7 +109,8 @@ class Judged(Small):
                 (VALUES, 'for _ in a {} 0', 'low::taken take-requires', None),
                 (VALUES.replace('only', 'rattle: only'), '0', 'low::taken take-requires', None),
                 (STATEMENT, '0', 'low::f returns', None), (STATEMENT, '0', 'low::f returns read', 'read'),
-                (NAME, '0', 'low::f returns read', None), (NAME, '0', 'low::f early read', None)):
+                (NAME, '0', 'low::f returns read', None), (STATEMENT + '\n' + NAME, '0', 'low::f returns read', None),
+                (NAME, '0', 'low::f early read', None)):
             self.assertEqual(judged(self.edit('any', 'one', new, goal), Check(said))[0], result, (said, goal))
 
     def test_right_bodies_are_told_from_mutants(self):

@@ -25,7 +25,7 @@ NAME_OF_CODE = re.compile(r'c\.[\w.-]+')
 NOTE = re.compile(r'note: (?:\./)?(\S+?:\d+):\d+: (.*)')
 ERROR = re.compile(r'(?:\./)?(\S+?:\d+):\d+: error: (.*)')
 VERDICT = re.compile(r'fn \w+::(\S+): (.*)')
-CALLEE = re.compile(r'it calls `|waits? for (?:a|the) callee')
+CALLEE = re.compile(r'it calls `|it waits for the proof of')
 NOT_TRIED = re.compile(r'note: `search` has not tried the goals of (.*), which wait')
 ENDED = re.compile(r'only=(\d+) proved=(\d+)|logic=(proved|not-proved)\b')
 NAMED = re.compile(r'.*?\(`([^`]*)`\)|`([^`]*)`')
@@ -80,6 +80,12 @@ class Check:
         """The failures of a goal, or of the lemma for it."""
         owners = goal.function, NO_FUNCTION
         return [x for x in self.failures if x.function in owners and x.name == goal.name]
+
+    def meant(self, goal):
+        """Those that tell that it fails by its meaning. What a proof says that names something else tells nothing."""
+        found = self.of(goal)
+        is_by_name = any(x.is_by_name for x in found)
+        return [x for x in found if not is_by_name or not x.place.startswith('proofs/')]
 
     def text(self):
         """What it refused first, and its last line."""

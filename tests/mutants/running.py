@@ -89,7 +89,7 @@ def judged(edit, check):
     if not edit.goal:
         meant = [x for x in check.failures if x.name != '?' and not x.is_by_name]
         return None, 'NAMES NO GOAL: one of these may be its goal: ' + '; '.join(map(str, meant))
-    failures = [x for x in check.of(edit.goal) if not x.is_by_name]
+    failures = check.meant(edit.goal)
     line = '; '.join(map(str, failures))
     if not failures or not check.ended:
         return None, missed(check, edit.goal)
