@@ -4,6 +4,7 @@ run.
 The archive is the one that PATRICIA_ARCHIVE names, which the gate builds beside, or else the one that `rt lib` makes
 in crates/patricia_c. What is not installed here is skipped, but for cc, make and python3.
 """
+import functools
 import os
 import shutil
 import subprocess
@@ -165,6 +166,13 @@ class InC(Installed):
         self.says_ok(self.path('plus'))
 
 
+@functools.cache
+def offered(name, calls):
+    """The lines of a name that are of these calls, kind by kind, and what they must be answered."""
+    made = sorted(lines.made(name, calls), key=lambda line: lines.KINDS.index(line.split(' ')[0]))
+    return lines.data(made), lines.answered(made)
+
+
 class Lines(Installed):
     """The lines of `test_scripts` that C offers, against the independent model."""
 
@@ -173,10 +181,9 @@ class Lines(Installed):
         return set(run([self.compiled('scripts'), 'calls']).stdout.decode().split('\n'))
 
     def answers(self, name, *before, flags=(), words=()):
-        """The program answers the lines of a name, in a run behind these words."""
-        made = sorted(lines.made(name, self.calls()), key=lambda line: lines.KINDS.index(line.split(' ')[0]))
-        ran = run([*before, self.compiled('scripts', *flags), *words], lines.data(made))
-        self.assert_ends(ran, lines.answered(made))
+        """The program answers the lines of a name, in a run after these words."""
+        data, output = offered(name, frozenset(self.calls()))
+        self.assert_ends(run([*before, self.compiled('scripts', *flags), *words], data), output)
 
     @each(*lines.MADE)
     def answers_to(self, name):

@@ -46,12 +46,15 @@ def committed():
 
 MADE = {'committed': committed, 'decimals': decimals, 'labels': make_labels.lines, 'near': make_near.lines,
         'order': make_order.lines, 'chance': chance, 'encodings': make_encodings.lines,
-        'damage': make_damage.lines, 'large': make_large.lines}
+        'damage': make_damage.lines}
+# Lines about 200,000 keys, whose answers take the model a minute.
+LARGE = 'large'
 
 
 def made(name, offered=None):
     """The lines of a name: those of calls that are offered, which are most of them."""
-    lines = [line for line in MADE[name]() if line.split(' ')[0] in KINDS]
+    made_now = make_large.lines if name == LARGE else MADE[name]
+    lines = [line for line in made_now() if line.split(' ')[0] in KINDS]
     if offered is None:
         return lines
     kept = [line for line in lines if ' '.join(line.split(' ')[:2]) in offered]
