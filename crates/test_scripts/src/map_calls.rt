@@ -2,7 +2,7 @@
 
 use crate::answering::{Answering, Listed, add_entries, add_refusal};
 use crate::answers::Answers;
-use crate::kinds::Readable;
+use crate::kinds::{Readable, Shown};
 use crate::walks::add_walk;
 use crate::wholes::{self, Whole};
 use crate::{calls, map_bulk, map_queries, map_values};
@@ -32,7 +32,10 @@ impl<K: Bytes> Listed for MapCalls<K> {
     }
 }
 
-impl<'a, Q: Readable<'a>> Answering<'a, Q> for MapCalls<Q::Owned> {
+impl<'a, Q: Readable<'a>> Answering<'a, Q> for MapCalls<Q::Owned>
+where
+    Q::Owned: Shown,
+{
     fn answer(
         &mut self,
         alloc: Global,
@@ -44,7 +47,10 @@ impl<'a, Q: Readable<'a>> Answering<'a, Q> for MapCalls<Q::Owned> {
     }
 }
 
-impl<'a, Q: Readable<'a>> Whole<'a, Q> for MapCalls<Q::Owned> {
+impl<'a, Q: Readable<'a>> Whole<'a, Q> for MapCalls<Q::Owned>
+where
+    Q::Owned: Shown,
+{
     fn copied(&self) -> Result<Self, AllocError> {
         let map = self.map.clone()?;
         Ok(MapCalls { map })

@@ -1,7 +1,7 @@
 //! The calls that leave a map as it is.
 
 use crate::answers::Answers;
-use crate::kinds::Readable;
+use crate::kinds::{Readable, Shown};
 use crate::prefix_calls;
 use crate::walks::{add_first, add_walk};
 use patricia_tree::{BorrowedBytes, Bytes, GenericPatriciaMap};
@@ -17,7 +17,10 @@ pub(super) fn answer<'a, Q: Readable<'a>>(
     call: &str,
     arguments: &'a [Vec<u8>],
     out: &mut String,
-) -> Result<(), AllocError> {
+) -> Result<(), AllocError>
+where
+    Q::Owned: Shown,
+{
     match call {
         "get" | "contains" => add_each::<Q>(map, call == "get", arguments, out),
         "len" => out.add_number(map.len() as u64),
@@ -27,7 +30,7 @@ pub(super) fn answer<'a, Q: Readable<'a>>(
         "cursor" => add_walk(map.cursor(), map.len(), out),
         "begin" => add_begun(map, out),
         "itself" => out.add_bool(map.equals(map)?),
-        "debug" | "wide" => Q::add_map(map, call == "wide", out),
+        "debug" | "wide" => <Q::Owned as Shown>::add_map(map, call == "wide", out),
         _ => prefix_calls::answer::<Q>(alloc, map, call, arguments, out),
     }
 }

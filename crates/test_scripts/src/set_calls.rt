@@ -2,7 +2,7 @@
 
 use crate::answering::{Answering, Listed, add_entries};
 use crate::answers::Answers;
-use crate::kinds::Readable;
+use crate::kinds::{Readable, Shown};
 use crate::walks::add_walk;
 use crate::wholes::{self, Whole};
 use crate::{calls, set_bulk, set_queries};
@@ -32,7 +32,10 @@ impl<K: Bytes> Listed for SetCalls<K> {
     }
 }
 
-impl<'a, Q: Readable<'a>> Answering<'a, Q> for SetCalls<Q::Owned> {
+impl<'a, Q: Readable<'a>> Answering<'a, Q> for SetCalls<Q::Owned>
+where
+    Q::Owned: Shown,
+{
     fn answer(
         &mut self,
         alloc: Global,
@@ -44,7 +47,10 @@ impl<'a, Q: Readable<'a>> Answering<'a, Q> for SetCalls<Q::Owned> {
     }
 }
 
-impl<'a, Q: Readable<'a>> Whole<'a, Q> for SetCalls<Q::Owned> {
+impl<'a, Q: Readable<'a>> Whole<'a, Q> for SetCalls<Q::Owned>
+where
+    Q::Owned: Shown,
+{
     fn copied(&self) -> Result<Self, AllocError> {
         let set = self.set.clone()?;
         Ok(SetCalls { set })

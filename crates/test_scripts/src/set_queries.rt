@@ -1,7 +1,7 @@
 //! The calls that leave a set as it is.
 
 use crate::answers::Answers;
-use crate::kinds::Readable;
+use crate::kinds::{Readable, Shown};
 use crate::walks::add_walk;
 use patricia_tree::{BorrowedBytes, Bytes, GenericPatriciaSet};
 use std::alloc::AllocError;
@@ -14,11 +14,14 @@ pub(super) fn answer<'a, Q: Readable<'a>>(
     call: &str,
     arguments: &'a [Vec<u8>],
     out: &mut String,
-) -> Result<(), AllocError> {
+) -> Result<(), AllocError>
+where
+    Q::Owned: Shown,
+{
     match call {
         "len" => out.add_number(set.len() as u64),
         "empty" => out.add_bool(set.is_empty()),
-        "debug" | "wide" => Q::add_set(set, call == "wide", out),
+        "debug" | "wide" => <Q::Owned as Shown>::add_set(set, call == "wide", out),
         "cursor" => add_walk(set.cursor(), set.len(), out),
         "itself" => out.add_bool(set.equals(set)?),
         "range" | "cursor_range" => add_range::<Q>(set, call == "range", arguments, out),
