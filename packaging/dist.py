@@ -51,10 +51,10 @@ def record(asked):
         raise gate.NotProved('these files differ from the commit: %s. Commit them first' % ', '.join(changed[:9]))
     if asked.trial:
         return {'commit': commit, 'sums': gate.sums(asked.trial)}
-    crates = due.crates_due(tree.ROOT, listing.listed(tree.ROOT))
-    if crates:
-        raise gate.NotProved('mutants of these crates are due: %s. tests/must_fail.py --record tries them, and writes '
-                             'down that they are good' % ', '.join(crates))
+    names = due.names(tree.ROOT, listing.listed(tree.ROOT)) + due.judged_earlier(tree.ROOT)
+    if names:
+        raise gate.NotProved('these mutants, or those of these crates, are due: %s. tests/must_fail.py --record tries '
+                             'them, and writes down that they are good' % ', '.join(names))
     return gate.proved(commit, asked.gate)
 
 

@@ -1,7 +1,7 @@
 #!/usr/bin/env python3
 """Tries the mutants of crates/*/must-fail, each of which must leave open a goal of its function.
 
-    tests/must_fail.py [--record]            those of the crates that are due (tests/mutants/due.py says which)
+    tests/must_fail.py [--record]            those that are due (tests/mutants/due.py says which)
     tests/must_fail.py [--record] --all      those of all crates
     tests/must_fail.py [--record] CRATE..    those of the crates named
     tests/must_fail.py CRATE/EDIT..          the ones named
@@ -59,13 +59,13 @@ def main(words=None, root=listing.ROOT):
     """Does what the words ask of a repository."""
     asked = arguments(words)
     crates = listing.listed(root)
-    names = asked.names or (crates if asked.all else due.crates_due(root, crates))
+    names = asked.names or (crates if asked.all else due.names(root, crates))
     prover = Prover(crates, asked.built or root)
     with tempfile.TemporaryDirectory(prefix='must-fail-') as room:
         told = done([Work(*of, prover, room) for of in chosen(names, root, crates)])
     bad = [x for x in told if not x.result]
     if asked.record:
-        results = {x: [y.result for y in told if y.crate == x] for x in names}
+        results = {x: [y.result for y in told if y.crate == x] for x in names if x in crates}
         due.record(root, {x: (of.count(REFUTED), of.count(READ)) for x, of in results.items() if None not in of})
     counts = [sum(x.result == word for x in told) for word in (REFUTED, READ)]
     print('%d are shown false by values, and of %d someone read why they are false' % tuple(counts))

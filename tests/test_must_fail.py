@@ -164,7 +164,7 @@ class Due(Small):
         self.git('commit', '-qm', 'all')
 
     def due(self):
-        return due.crates_due(self.top, listing.listed(self.top))
+        return due.names(self.top, listing.listed(self.top))
 
     def test_crates_are_due_until_all_of_their_mutants_were_good(self):
         self.assertEqual(self.due(), ['small', 'high'])
@@ -173,10 +173,12 @@ class Due(Small):
         self.write('crates/high/proofs/a.antt', '')
         self.assertEqual(self.due(), ['high'])
         self.write('crates/small/must-fail/a.edit', '')
-        self.assertEqual(self.due(), ['small', 'high'])
+        self.assertEqual(self.due(), ['small/a', 'high'])
         self.commit()
         due.record(self.top, {'high': (1, 2)})
-        self.assertEqual(self.due(), ['small'])
+        self.assertEqual(self.due(), ['small/a'])
+        os.remove(os.path.join(self.top, 'crates/small/must-fail/any.edit'))
+        self.assertEqual(self.due(), ['small/a'])
         self.write('crates/small/src/lib.rt', '')
         due.record(self.top, {'small': (0, 0)})
         self.assertEqual(self.due(), ['small', 'high'])

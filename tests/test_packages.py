@@ -259,7 +259,7 @@ class Refusals(Case):
         git(self.place, 'rm', '-q', path)
         git(self.place, 'commit', '-qm', 'no record')
         self.addCleanup(git, self.place, 'reset', '-q', '--hard', self.commit)
-        self.assert_refused('mutants of these crates are due', 'patricia_keys')
+        self.assert_refused('are due: patricia_keys')
 
     def dist(self, *words):
         """Makes the package of the sources alone, from the checkout."""

@@ -1,7 +1,9 @@
-"""Which mutants are due: those of a crate of which a check reads other files than when all of them were good.
+"""Which mutants are due: those of a crate of which a check reads other sources than when all of them were good, and
+those that have changed since.
 
 packaging/mutants.json says of each crate at which commit that was, by which kit, how many mutants the prover showed
-false by values, and of how many someone read why they are.
+false by values, and of how many someone read why they are. `earlier` marks a crate whose mutants an earlier judge tried,
+which also counted a proof that fails only because the names of the code in it have changed.
 """
 import json
 import os
@@ -31,36 +33,46 @@ def recorded(root):
     return json.loads(read(path)) if os.path.isfile(path) else {}
 
 
-def changed(root, commit, crates):
-    """The crates of whose mutants a check reads a file that differs from a commit, or that git does not track. All of
-    them if it knows no such commit."""
-    files = told(root, 'git', 'diff', '--no-renames', '--name-only', commit, '--')
-    if files is None:
-        return {*crates}
-    files += told(root, 'git', 'ls-files', '--others', '--exclude-standard')
-
-    def has_changed(crate, *parts):
-        return any(x.startswith(tuple('crates/%s/%s/' % (crate, part) for part in parts)) for x in files)
-    return {x for x in crates
-            if has_changed(x, *PARTS, 'must-fail') or any(has_changed(y, *PARTS) for y in listing.below(crates, x))}
+def changed(root, commit):
+    """The files that differ from a commit, or that git does not track, but not those that are gone; None if it knows no
+    such commit."""
+    files = told(root, 'git', 'diff', '--no-renames', '--diff-filter=d', '--name-only', commit, '--')
+    return files if files is None else files + told(root, 'git', 'ls-files', '--others', '--exclude-standard')
 
 
-def crates_due(root, crates):
-    """The names of the crates whose mutants are due: of those that have any all that the record does not name with this
-    kit, and those that changed since."""
-    known, this_kit = recorded(root), kit(root)
-    since = {commit: changed(root, commit, crates) for commit in {x['commit'] for x in known.values()}}
-    return [x for x in crates if os.path.isdir(os.path.join(root, 'crates', x, 'must-fail'))
-            and (x not in known or known[x]['kit'] != this_kit or x in since[known[x]['commit']])]
+def of_crate(root, crates, crate, commit):
+    """The names of the mutants of a crate that are due since a commit at which all were good: of the crate itself if a
+    source has changed that their checks read, or else of those that have changed."""
+    files = changed(root, commit)
+    sources = tuple('crates/%s/%s/' % (x, part) for x in (crate, *listing.below(crates, crate)) for part in PARTS)
+    if files is None or any(x.startswith(sources) for x in files):
+        return [crate]
+    own = 'crates/%s/must-fail/' % crate
+    return ['%s/%s' % (crate, x.removeprefix(own).removesuffix('.edit')) for x in files
+            if x.startswith(own) and x.endswith('.edit')]
+
+
+def names(root, crates):
+    """The names of the crates whose mutants are all due, and CRATE/EDIT of each other one that is."""
+    known, this_kit, found = recorded(root), kit(root), []
+    for crate in [x for x in crates if os.path.isdir(os.path.join(root, 'crates', x, 'must-fail'))]:
+        of = known.get(crate, {})
+        found += of_crate(root, crates, crate, of['commit']) if of.get('kit') == this_kit else [crate]
+    return found
+
+
+def judged_earlier(root):
+    """The names of the crates whose mutants the present judge has not tried."""
+    return [x for x, of in recorded(root).items() if of.get('earlier')]
 
 
 def record(root, good):
     """Writes into the record that all mutants of these crates are good at the last commit, with how many were refuted
     and read of each. Those of which files differ from that commit are left out."""
     crates = listing.listed(root)
-    head = {'commit': told(root, 'git', 'rev-parse', 'HEAD')[0], 'kit': kit(root)}
+    head = told(root, 'git', 'rev-parse', 'HEAD')[0]
     known = {x: of for x, of in recorded(root).items() if x in crates}
-    for crate in {*good} - changed(root, 'HEAD', crates):
-        known[crate] = {**head, 'refuted': good[crate][0], 'read': good[crate][1]}
+    for crate in [x for x in good if not of_crate(root, crates, x, head)]:
+        known[crate] = {'commit': head, 'kit': kit(root), 'refuted': good[crate][0], 'read': good[crate][1]}
     with open(os.path.join(root, RECORD), 'w', encoding='utf-8') as file:
         file.write(json.dumps(known, indent=1, sort_keys=True) + '\n')
