@@ -8,7 +8,8 @@ It names a function as a check does after 'fn', without the crate's name, and th
 or a lemma for it that stands in a file right in proofs/. With the word 'read' after them someone has read why the goal
 is false with the edit. Without it the prover has to show so at each run, by values: that it has no proof of a goal may
 be so of a right body, too, and so may it be that values break a goal behind a loop that the edit brings in. With the
-word 'searched' the goal's answer is taken out of the proof, which names what the edit replaces, and search tries it.
+word 'searched' the answer to the goal, or to all clauses of its function, is taken out of the proof, which names what
+the edit replaces, and search tries it.
 """
 import os
 import re
@@ -129,7 +130,8 @@ class Edit:
             texts[file] = text.replace(old, new)
         if 'searched' in self.marks:
             file, text = sources.answers(self.goal.function)
-            texts[file] = re.sub(r'^pub %s : .*?(?=^pub |\Z)' % self.goal.name, '', text, flags=re.M | re.S)
+            names = '|'.join({self.goal.name, self.goal.name.partition('-clause-')[0]})
+            texts[file] = re.sub(r'^pub (?:%s) : .*?(?=^pub |\Z)' % names, '', text, flags=re.M | re.S)
         return texts
 
     def loops(self):
