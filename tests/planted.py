@@ -1,11 +1,11 @@
 #!/usr/bin/env python3
-"""Plants wrong bodies in the Rust package, each of which keeps every contract, and asks that a test of it fails.
+"""Applies mutants to the Rust package that meet every contract. A test of the package must fail for each.
 
     tests/planted.py            all of them, in about two minutes
     tests/planted.py WORD..     those whose descriptions have one of the words
 
-It works in a copy in out/planted, which keeps what cargo built, and needs no kit. A plant is a text of an erased
-source that is replaced, and must stand there once.
+It works in a copy in out/planted, where cargo keeps its builds, and needs no kit. A mutant replaces a text of an erased
+source, which must occur there once.
 """
 import os
 import re
@@ -20,8 +20,8 @@ from tests.rust import package  # noqa: E402
 
 
 class Plant(NamedTuple):
-    """What is wrong, the file of the erased sources, the text and what stands for it, and the test that must fail: the
-    name of its file, and its own or a part of it."""
+    """The mistake, the file of the erased sources, the text and its replacement, and the test that must fail: the name
+    of its file, and its own name or a part of it."""
     what: str
     file: str
     old: str
@@ -140,7 +140,7 @@ def planted(made, plant):
     with open(path, encoding='utf-8') as file:
         text = file.read()
     if text.count(plant.old) != 1:
-        sys.exit('%s stands %d times in %s' % (plant.old, text.count(plant.old), plant.file))
+        sys.exit('%s occurs %d times in %s' % (plant.old, text.count(plant.old), plant.file))
     return path, text, text.replace(plant.old, plant.new)
 
 
@@ -179,7 +179,7 @@ def main(words):
         if not passes:
             failed += 1
             print('it does not pass without a plant: %s %s\n%s' % (test, name, said[-2000:]))
-    print('%d wrong bodies, %d not refused' % (len(plants), failed))
+    print('%d mutants, %d not detected' % (len(plants), failed))
     return 1 if failed else 0
 
 

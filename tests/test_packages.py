@@ -104,7 +104,7 @@ class Version(Case):
 
 
 def declared():
-    """The functions of patricia.h, and those of them whose body stands there."""
+    """The functions of patricia.h, and the inline ones among them."""
     text = read('bindings', 'c', 'patricia.h')
     return ({*re.findall(r'^(?!typedef|#| |/).*?\b(patricia_\w+)\((?!\))', text, re.M)},
             {*re.findall(r'^static inline .*?\b(patricia_\w+)\(', text, re.M)})

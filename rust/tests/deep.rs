@@ -94,7 +94,7 @@ fn look_ups_and_walks_take_no_more_of_the_stack() {
             .for_each(|entry| *entry.1 += 1);
         map.for_each_prefix(&key(65_530)[..], |_, value| assert!(*value > 65_530));
         assert_eq!(map.get(key(65_534)), Some(&65_536));
-        // what is dropped behind its first item
+        // dropped after its first item
         assert!(map.iter().next().is_some() && map.iter_prefix(b"aa").next().is_some());
         assert!(map.iter_mut().next().is_some() && map.values_mut().next().is_some());
         let copy = map.clone();

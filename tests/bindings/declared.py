@@ -90,7 +90,7 @@ def texts_of_errors():
 
 
 def uncalled():
-    """The functions of patricia.h, those whose body stands there included, that no program of tests/bindings calls."""
+    """The functions of patricia.h, inline ones included, that no program of tests/bindings calls."""
     folder = os.path.join(ROOT, 'tests', 'bindings')
     programs = ''.join(read(folder, name) for name in os.listdir(folder) if name.endswith(('.c', '.h')))
     # ASK of lines.h calls a function of maps and that of handles

@@ -154,7 +154,7 @@ static void read_word(const char *text, size_t len)
     pool[pool_len++] = 0;
 }
 
-/* Reads the words behind the kind and the call of a line. */
+/* Reads the words after the kind and the call of a line. */
 static void read_words(const char *text)
 {
     pool_len = count = 0;

@@ -32,7 +32,7 @@ static uint32_t add_iterated(const asked *a, word prefix)
     return result;
 }
 
-/* All entries, once more behind `refused` where memory runs out. */
+/* All entries, and once more after `refused` if memory runs out. */
 static void add_all(const asked *a)
 {
     word all = {patricia_bytes(NULL), 0};
@@ -180,7 +180,7 @@ static uint32_t removed(asked *a)
     return PATRICIA_DONE;
 }
 
-/* Entries are put in, or a map is made of them in place of the one that is there. */
+/* Inserts entries, or replaces the map by one of them. */
 static uint32_t take_many(asked *a, bool is_new)
 {
     patricia_map made = PATRICIA_MAP_INIT;

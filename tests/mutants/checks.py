@@ -18,7 +18,7 @@ SHOWN_FALSE = 'allow values at which this goal is false'
 NO_PROOF = '`search`: no proof of'
 GONE = re.compile(r'has no field|\(nearest: |is not in scope|has no `|was not admitted|is no name'
                   r'|operand is missing|expected the end|cannot continue')
-# where a proof and its goal differ, and a name of the code that may stand there
+# the difference between a proof and its goal, and a name of the code that may be on either side
 DIFFERENCE = re.compile(r'differ (?:only )?where one has `([^`]*)` ?(?:\(expected\))?(?:,? right after `[^`]*`)?,?'
                         r' and the other has `([^`]*)`')
 NAME_OF_CODE = re.compile(r'c\.[\w.-]+')

@@ -63,7 +63,7 @@ def shown(kind, m):
 
 
 def put_in_part(m, kind, call, words, in_c):
-    """A call that puts pairs in is refused at one of them. A map in C asks for memory of its own with its first one."""
+    """A call that inserts pairs is out of memory at one of them. A map in C also allocates itself at its first pair."""
     made, found = {} if call == 'from_iter' else dict(m), []
     for taken, (key, value) in enumerate(put_in(kind, words), 1):
         if (key or in_c and not made) and key not in made:
