@@ -2,6 +2,10 @@
 //! proved code is public only under `--cfg workbench`.
 #![cfg(workbench)]
 
+#[path = "common/encodings.rs"]
+mod encodings;
+
+use encodings::{THREE, WIDE};
 use patricia::workbench::{AllocError, Global, Narrow, ProvedVec, Tree, Wide, count_children};
 
 /// The node that the second key divides is joined again, and the keys of siblings are freed from
@@ -45,24 +49,6 @@ fn a_copy_has_no_free_node() -> Result<(), AllocError> {
     }
     Ok(())
 }
-
-/// The tree bytes of the keys `bar`, `baz` and `foo`, a record in each line.
-const THREE: [u8; 27] = [
-    12, 0, 0, 0, //
-    60, 2, 0, 1, 98, 97, //
-    51, 1, 0, 2, 114, //
-    3, 1, 0, 2, 122, //
-    3, 3, 0, 1, 102, 111, 111,
-];
-
-/// The same with wide levels.
-const WIDE: [u8; 37] = [
-    12, 0, 0, 0, 0, 0, //
-    60, 2, 0, 0, 0, 1, 98, 97, //
-    51, 1, 0, 0, 0, 2, 114, //
-    3, 1, 0, 0, 0, 2, 122, //
-    3, 3, 0, 0, 0, 1, 102, 111, 111,
-];
 
 /// The tree bytes of so many keys of one byte.
 fn row(keys: u8) -> Vec<u8> {

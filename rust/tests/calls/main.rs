@@ -2,6 +2,8 @@
 
 mod bulk;
 mod closures;
+#[path = "../common/encodings.rs"]
+mod encodings;
 mod iterators;
 mod map;
 mod names;

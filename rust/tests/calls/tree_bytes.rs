@@ -1,25 +1,8 @@
 //! Tree bytes: worked examples, and each error.
 
+use crate::encodings::{THREE, WIDE};
 use patricia::{DecodeError, GenericPatriciaMap, PatriciaMap, PatriciaSet, StringPatriciaMap};
 use patricia::{StringPatriciaSet, TooDeep, WireError};
-
-/// `bar`, `baz` and `foo`, a record in each line.
-const THREE: [u8; 27] = [
-    12, 0, 0, 0, //
-    60, 2, 0, 1, 98, 97, //
-    51, 1, 0, 2, 114, //
-    3, 1, 0, 2, 122, //
-    3, 3, 0, 1, 102, 111, 111,
-];
-
-/// The same with wide levels.
-const WIDE: [u8; 37] = [
-    12, 0, 0, 0, 0, 0, //
-    60, 2, 0, 0, 0, 1, 98, 97, //
-    51, 1, 0, 0, 0, 2, 114, //
-    3, 1, 0, 0, 0, 2, 122, //
-    3, 3, 0, 0, 0, 1, 102, 111, 111,
-];
 
 fn fault(bytes: &[u8], count: usize) -> DecodeError {
     let read = PatriciaMap::from_tree_bytes(bytes, vec![(); count]);
