@@ -1,9 +1,10 @@
 //! The calls of a map.
 
+use crate::encodings::{self, Encoded};
 use crate::words::{drained, key, keys, number, pairs, row, shown, written};
-use crate::{Answering, Kind, encodings, key_calls};
+use crate::{Answering, Kind, key_calls};
 use patricia::map::Cursor;
-use patricia::{BorrowedBytes, GenericPatriciaMap};
+use patricia::{BorrowedBytes, DecodeError, GenericPatriciaMap, WireError};
 use std::mem;
 
 /// A map that answers calls.
@@ -90,8 +91,7 @@ impl<K: Kind> Answering for Map<K> {
             .or_else(|| self.change_values(call, words))
             .or_else(|| self.take_many(call, words))
             .or_else(|| self.part(call, words))
-            .or_else(|| self.read(call, words))
-            .or_else(|| self.encode(call))
+            .or_else(|| encodings::answer(self, call, words))
             .or_else(|| self.walk(call, words))
             .or_else(|| self.ask(call, words))
             .or_else(|| self.ask_prefixes(call, words))
@@ -124,11 +124,46 @@ fn first<K: Kind>(found: Option<(K, &u64)>) -> String {
     shown(found.map(|(key, value)| entry((key, *value))))
 }
 
-impl<K: Kind> Map<K> {
+impl<K: Kind> Encoded for Map<K> {
+    type Values = Vec<u64>;
+
+    fn len(&self) -> usize {
+        self.0.len()
+    }
+
     fn rows(&self) -> Vec<String> {
         entries(self.0.iter())
     }
 
+    fn encode(&self, is_wide: bool) -> Result<Vec<u8>, WireError> {
+        match is_wide {
+            true => self.0.try_wide_tree_bytes(),
+            false => self.0.try_tree_bytes(),
+        }
+    }
+
+    fn decode(tree: &[u8], is_wide: bool, values: Vec<u64>) -> Result<Self, DecodeError> {
+        let map = match is_wide {
+            true => GenericPatriciaMap::from_wide_tree_bytes(tree, values),
+            false => GenericPatriciaMap::try_from_tree_bytes(tree, values),
+        };
+        map.map(Map)
+    }
+
+    fn values(&self) -> Vec<u64> {
+        self.0.values().copied().collect()
+    }
+
+    fn given(words: &[Vec<u8>]) -> Vec<u64> {
+        words.iter().map(|word| number(word)).collect()
+    }
+
+    fn numbers(count: u64) -> Vec<u64> {
+        (1..=count).collect()
+    }
+}
+
+impl<K: Kind> Map<K> {
     fn counted(&self, count: impl ToString) -> Vec<String> {
         [vec![count.to_string()], self.rows()].concat()
     }
@@ -268,53 +303,6 @@ impl<K: Kind> Map<K> {
             self.0 = taken;
         }
         Some(parts.concat())
-    }
-
-    fn read(&mut self, call: &str, words: &[Vec<u8>]) -> Option<Vec<String>> {
-        let values = || words[1..].iter().map(|word| number(word)).collect();
-        let numbers = || (1..=number(&words[1])).collect();
-        let read = match call {
-            "read" => GenericPatriciaMap::try_from_tree_bytes(&words[0], values()),
-            "read_wide" => GenericPatriciaMap::try_from_wide_tree_bytes(&words[0], values()),
-            "open" => GenericPatriciaMap::from_tree_bytes(&words[0], numbers()),
-            "open_wide" => GenericPatriciaMap::from_wide_tree_bytes(&words[0], numbers()),
-            _ => return None,
-        };
-        Some(match read {
-            Ok(read) => {
-                self.0 = read;
-                if call.starts_with("read") {
-                    self.rows()
-                } else {
-                    vec![self.0.len().to_string()]
-                }
-            }
-            Err(fault) => vec![fault.to_string()],
-        })
-    }
-
-    fn encode(&mut self, call: &str) -> Option<Vec<String>> {
-        let map = &self.0;
-        let is_wide = call.ends_with("_wide");
-        let tree = match call {
-            "tree" | "size" | "reload" => map.try_tree_bytes(),
-            "tree_wide" | "size_wide" | "reload_wide" => map.try_wide_tree_bytes(),
-            _ => return None,
-        };
-        Some(match (call, tree) {
-            ("tree" | "tree_wide", tree) => encodings::tree(tree),
-            ("size" | "size_wide", tree) => encodings::size(tree, if is_wide { 4 } else { 2 }),
-            (_, Err(fault)) => vec![fault.to_string()],
-            (_, Ok(tree)) => {
-                let values = map.values().copied().collect();
-                self.0 = match is_wide {
-                    true => GenericPatriciaMap::from_wide_tree_bytes(&tree, values),
-                    false => GenericPatriciaMap::try_from_tree_bytes(&tree, values),
-                }
-                .expect("tree bytes");
-                vec![self.0.len().to_string()]
-            }
-        })
     }
 
     fn walk(&self, call: &str, words: &[Vec<u8>]) -> Option<Vec<String>> {

@@ -1,9 +1,10 @@
 //! The calls of a set.
 
+use crate::encodings::{self, Encoded};
 use crate::words::{drained, key, keys, number, shown, written};
-use crate::{Answering, Kind, encodings};
+use crate::{Answering, Kind};
 use patricia::map::Cursor;
-use patricia::{BorrowedBytes, GenericPatriciaSet};
+use patricia::{BorrowedBytes, DecodeError, GenericPatriciaSet, WireError};
 use std::mem;
 
 /// A set that answers calls.
@@ -74,8 +75,7 @@ impl<K: Kind> Answering for Set<K> {
         self.change(call, words)
             .or_else(|| self.take_many(call, words))
             .or_else(|| self.part(call, words))
-            .or_else(|| self.read(call, words))
-            .or_else(|| self.encode(call))
+            .or_else(|| encodings::answer(self, call, words))
             .or_else(|| self.compare(call, words))
             .or_else(|| self.ask(call, words))
             .or_else(|| self.ask_each(call, words))
@@ -100,11 +100,46 @@ fn lent<K: Kind>(mut cursor: Cursor<'_, K, ()>) -> Vec<String> {
     elements
 }
 
-impl<K: Kind> Set<K> {
+impl<K: Kind> Encoded for Set<K> {
+    type Values = usize;
+
+    fn len(&self) -> usize {
+        self.0.len()
+    }
+
     fn rows(&self) -> Vec<String> {
         elements(self.0.iter())
     }
 
+    fn encode(&self, is_wide: bool) -> Result<Vec<u8>, WireError> {
+        match is_wide {
+            true => self.0.try_wide_tree_bytes(),
+            false => self.0.try_tree_bytes(),
+        }
+    }
+
+    fn decode(tree: &[u8], is_wide: bool, values: usize) -> Result<Self, DecodeError> {
+        let set = match is_wide {
+            true => GenericPatriciaSet::try_from_wide_tree_bytes(tree, values),
+            false => GenericPatriciaSet::from_tree_bytes(tree, values),
+        };
+        set.map(Set)
+    }
+
+    fn values(&self) -> usize {
+        self.0.len()
+    }
+
+    fn given(words: &[Vec<u8>]) -> usize {
+        number(&words[0]) as usize
+    }
+
+    fn numbers(count: u64) -> usize {
+        count as usize
+    }
+}
+
+impl<K: Kind> Set<K> {
     fn counted(&self, count: impl ToString) -> Vec<String> {
         [vec![count.to_string()], self.rows()].concat()
     }
@@ -189,52 +224,6 @@ impl<K: Kind> Set<K> {
             self.0 = taken;
         }
         Some(parts.concat())
-    }
-
-    fn read(&mut self, call: &str, words: &[Vec<u8>]) -> Option<Vec<String>> {
-        let values = || number(&words[1]) as usize;
-        let numbers = || number(&words[1]) as usize;
-        let read = match call {
-            "read" => GenericPatriciaSet::try_from_tree_bytes(&words[0], values()),
-            "read_wide" => GenericPatriciaSet::try_from_wide_tree_bytes(&words[0], values()),
-            "open" => GenericPatriciaSet::from_tree_bytes(&words[0], numbers()),
-            "open_wide" => GenericPatriciaSet::from_wide_tree_bytes(&words[0], numbers()),
-            _ => return None,
-        };
-        Some(match read {
-            Ok(read) => {
-                self.0 = read;
-                if call.starts_with("read") {
-                    self.rows()
-                } else {
-                    vec![self.0.len().to_string()]
-                }
-            }
-            Err(fault) => vec![fault.to_string()],
-        })
-    }
-
-    fn encode(&mut self, call: &str) -> Option<Vec<String>> {
-        let set = &self.0;
-        let is_wide = call.ends_with("_wide");
-        let tree = match call {
-            "tree" | "size" | "reload" => set.try_tree_bytes(),
-            "tree_wide" | "size_wide" | "reload_wide" => set.try_wide_tree_bytes(),
-            _ => return None,
-        };
-        Some(match (call, tree) {
-            ("tree" | "tree_wide", tree) => encodings::tree(tree),
-            ("size" | "size_wide", tree) => encodings::size(tree, if is_wide { 4 } else { 2 }),
-            (_, Err(fault)) => vec![fault.to_string()],
-            (_, Ok(tree)) => {
-                self.0 = match is_wide {
-                    true => GenericPatriciaSet::try_from_wide_tree_bytes(&tree, set.len()),
-                    false => GenericPatriciaSet::from_tree_bytes(&tree, set.len()),
-                }
-                .expect("tree bytes");
-                vec![self.0.len().to_string()]
-            }
-        })
     }
 
     fn compare(&self, call: &str, words: &[Vec<u8>]) -> Option<Vec<String>> {
