@@ -6,8 +6,9 @@
 
 An example is code between two comments, '// example: MODULE NAME ..' and '// end'. It stands in the doc comment of each
 function of these names, in a file of CALLS or of a folder of CALLS, as the last section. Each public function of these
-files has one, but for HAS_NONE; so has each function of the traits of keys, and the library at its head. Where the tests call `done`, `same!`, `alike!`, `holds!`, `map_of` and `set_of` (asserts.rt),
-which are quick to prove, an example has `?`, `assert_eq!`, `assert!` and `from_iter` of an array.
+files has one, but for HAS_NONE; so has each function of the traits of keys, and the library at its head. Where the
+tests call `done`, `same!`, `alike!`, `holds!`, `map_of` and `set_of`, which are quick to prove, an example has `?`,
+`assert_eq!`, `assert!` and `from_iter` of an array.
 
 On a page of PAGES it stands indented behind a line '<!-- example: MODULE NAME -->' and an empty one.
 """
@@ -19,7 +20,7 @@ import textwrap
 ROOT = os.path.dirname(os.path.dirname(os.path.abspath(__file__)))
 CRATES = os.path.join(ROOT, 'crates')
 PAGES = 'README.md', 'docs/CALLS.md'
-EXAMPLES = 'test_examples/src/tests', 'example_map/src/main.rt'
+EXAMPLES = 'test_examples/src/tests', 'prefixes/src/tests.rt', 'example_map/src/main.rt'
 KEYS, WALKS, TREE, PREFIXES = 'patricia_keys/src/', 'patricia_walks/src/', 'patricia_tree/src/', 'prefixes_core/src/'
 CALLS = {
     'map': [TREE + 'map.rt', TREE + 'map'],

@@ -158,7 +158,25 @@ def refused(words, at=0, data=b'', **more):
 
 
 def in_turn(words, data=b'', **more):
-    """Runs a program with its first memory request refused, its second one, and so on, and at last with none."""
+    """Runs a program with its first memory request refused, with its second one, and so on, and at last with none. It
+    is started once, and the shim forks for each run."""
+    with tempfile.NamedTemporaryFile() as given, tempfile.NamedTemporaryFile() as runs:
+        given.write(data)
+        given.flush()
+        env = {**os.environ, 'REFUSE_INPUT': given.name, 'REFUSE_RUNS': runs.name,
+               'LD_PRELOAD': shim('refusal/refuse.c')}
+        started = subprocess.run(words, env=env, stdin=subprocess.DEVNULL, stdout=subprocess.PIPE,
+                                 stderr=subprocess.STDOUT, check=False, **more)
+        if started.returncode:
+            raise AssertionError('%s: %r' % (words, started))
+        for at, line in enumerate(iter(runs.readline, b''), 1):
+            status, requests, is_refused, largest, *lens = map(int, line.split())
+            output, errors = map(runs.read, lens)
+            yield at, Refused(os.waitstatus_to_exitcode(status), output, errors, requests, is_refused == 1, largest)
+
+
+def one_by_one(words, data=b'', **more):
+    """The same by a start for each run, so that what it leaves can be looked at before the next one."""
     for at in range(1, MOST_REQUESTS):
         ran = refused(words, at, data, **more)
         yield at, ran

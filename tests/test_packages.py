@@ -22,7 +22,7 @@ from tests.bindings import documented
 from tests.mutants import due
 from tests.packages import root
 from tests.support import ROOT, Case, each, folder, run
-from tests.test_bindings import archive
+from tests.bindings.installed import archive
 
 PACKAGING = os.path.join(ROOT, 'packaging')
 sys.path.insert(0, PACKAGING)

@@ -5,7 +5,7 @@ its arguments are not read, and has written the first of the same answers, whole
 `combine` wrote is nothing or the whole file.
 """
 import os
-from tests.support import in_turn, refused
+from tests.support import one_by_one, refused
 
 SAID = b'out of memory', b'the arguments are not read'
 COMMANDS = [
@@ -47,7 +47,7 @@ def check(program, words, data, folder):
     assert whole.returncode in (0, 1), words
     packed = taken(path)
     assert packed or 'made' not in words[1:]
-    for at, ran in in_turn(words, data, cwd=folder):
+    for at, ran in one_by_one(words, data, cwd=folder):
         told, is_same, made = (words, at, ran), ran[:2] == whole[:2], taken(path)
         if not ran.is_refused:
             assert is_same and made == packed and at > 1, told

@@ -1,6 +1,9 @@
 //! The program: it hands its arguments and streams to `serve`.
 #![tactic(auto)]
 
+#[cfg(test)]
+mod tests;
+
 use std::alloc::Global;
 use std::env;
 use std::io::{self, IsTerminal, Write};

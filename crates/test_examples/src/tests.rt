@@ -7,7 +7,6 @@ mod cursors;
 mod json;
 mod keys;
 mod maps;
-mod prefixes;
 mod ranges;
 mod reading;
 mod router;

@@ -1,10 +1,43 @@
 //! The examples of the calls of prefixes_core, as the documentation has them.
-use crate::tests::asserts::{done, holds, map_of, same, set_of};
-use patricia_tree::StringPatriciaMap;
+
+use patricia_tree::{StringPatriciaMap, StringPatriciaSet};
 use prefixes_core::{
     BlockList, Combination, Payload, UnpackError, combine, complete, draw, drop_subtree, lines_of,
     measure, near, pack, pack_names, segment, subtree, unpack,
 };
+use std::alloc::Global;
+use std::fmt::Debug;
+use std::process::Abort;
+
+// What a call gave. Ends the test if it gave an error.
+fn done<T: Drop, E: Debug + Drop>(rt: &impl Abort, got: Result<T, E>) -> T {
+    match got {
+        Ok(value) => value,
+        Err(error) => panic!(rt; "refused: {error:?}"),
+    }
+}
+
+// A map of these entries.
+fn map_of<V: Copy + Drop>(
+    rt: &impl Abort,
+    alloc: Global,
+    entries: &[(&str, V)],
+) -> StringPatriciaMap<V> {
+    let mut map = StringPatriciaMap::new(alloc);
+    for (key, value) in entries {
+        assert!(rt; map.insert(*key, *value).is_ok());
+    }
+    map
+}
+
+// A set of these elements.
+fn set_of(rt: &impl Abort, alloc: Global, elements: &[&str]) -> StringPatriciaSet {
+    let mut set = StringPatriciaSet::new(alloc);
+    for element in elements {
+        done(rt, set.insert(*element));
+    }
+    set
+}
 
 #[test]
 fn segment_example(rt: HostRuntime) {
@@ -12,7 +45,7 @@ fn segment_example(rt: HostRuntime) {
     let words = [("app", ()), ("apple", ()), ("pie", ())];
     let dictionary = map_of(&rt, rt.alloc(), &words);
     let pieces = done(&rt, segment(rt.alloc(), &dictionary, "xapplepie"));
-    same!(rt; pieces.as_slice(), ["x", "apple", "pie"].as_slice());
+    assert_eq!(rt; pieces.as_slice(), ["x", "apple", "pie"].as_slice());
     // end
 }
 
@@ -22,8 +55,8 @@ fn complete_example(rt: HostRuntime) {
     let map = map_of(&rt, rt.alloc(), &[("foo", 1), ("bar", 2), ("baz", 3)]);
     let completions = done(&rt, complete(rt.alloc(), &map, "ba", 1));
     assert_eq!(rt; completions.first.len(), 1);
-    same!(rt; completions.first[0].0.as_str(), "bar");
-    same!(rt; completions.count, 2);
+    assert_eq!(rt; completions.first[0].0.as_str(), "bar");
+    assert_eq!(rt; completions.count, 2);
     // end
 }
 
@@ -33,7 +66,7 @@ fn near_example(rt: HostRuntime) {
     let names = map_of(&rt, rt.alloc(), &[("bar", ()), ("bat", ()), ("foo", ())]);
     let found = done(&rt, near(rt.alloc(), &names, "bat", 1, 10));
     assert_eq!(rt; found.first.len(), 2);
-    same!(rt;
+    assert_eq!(rt;
         (found.first[0].name.as_str(), found.first[0].edits),
         ("bat", 0)
     );
@@ -45,9 +78,9 @@ fn measure_example(rt: HostRuntime) {
     // example: prefixes measure
     let names = map_of(&rt, rt.alloc(), &[("bar", ()), ("baz", ()), ("foo", ())]);
     let measures = done(&rt, measure(&names));
-    same!(rt; (measures.names, measures.name_bytes), (3, 9));
-    same!(rt; (measures.nodes, measures.label_bytes), (5, 7));
-    same!(rt; (measures.tree_bytes, measures.depth), (27, 2));
+    assert_eq!(rt; (measures.names, measures.name_bytes), (3, 9));
+    assert_eq!(rt; (measures.nodes, measures.label_bytes), (5, 7));
+    assert_eq!(rt; (measures.tree_bytes, measures.depth), (27, 2));
     // end
 }
 
@@ -57,10 +90,10 @@ fn draw_example(rt: HostRuntime) {
     let names = map_of(&rt, rt.alloc(), &[("bar", ()), ("baz", ()), ("foo", ())]);
     let nodes = done(&rt, draw(rt.alloc(), names, "b"));
     assert_eq!(rt; nodes.len(), 4);
-    same!(rt; nodes[1].label.as_bytes(), b"ba".as_slice());
-    holds!(rt; !nodes[1].is_name);
-    same!(rt; nodes[2].label.as_bytes(), b"r".as_slice());
-    same!(rt; (nodes[2].level, nodes[2].is_name), (2, true));
+    assert_eq!(rt; nodes[1].label.as_bytes(), b"ba".as_slice());
+    assert!(rt; !nodes[1].is_name);
+    assert_eq!(rt; nodes[2].label.as_bytes(), b"r".as_slice());
+    assert_eq!(rt; (nodes[2].level, nodes[2].is_name), (2, true));
     // end
 }
 
@@ -69,9 +102,9 @@ fn combine_example(rt: HostRuntime) {
     // example: prefixes combine
     let one = set_of(&rt, rt.alloc(), &["foo", "bar"]);
     let other = set_of(&rt, rt.alloc(), &["bar", "baz"]);
-    same!(rt; done(&rt, combine(Combination::Union, &one, &other)).len(), 3);
-    holds!(rt; done(&rt, combine(Combination::Intersection, &one, &other)).contains("bar"));
-    holds!(rt; done(&rt, combine(Combination::Difference, &one, &other)).contains("foo"));
+    assert_eq!(rt; done(&rt, combine(Combination::Union, &one, &other)).len(), 3);
+    assert!(rt; done(&rt, combine(Combination::Intersection, &one, &other)).contains("bar"));
+    assert!(rt; done(&rt, combine(Combination::Difference, &one, &other)).contains("foo"));
     // end
 }
 
@@ -80,7 +113,7 @@ fn lines_of_example(rt: HostRuntime) {
     // example: prefixes lines_of
     let names = set_of(&rt, rt.alloc(), &["foo", "bar"]);
     let lines = done(&rt, lines_of(rt.alloc(), &names, b'\n'));
-    same!(rt; lines.as_slice(), b"bar\nfoo\n".as_slice());
+    assert_eq!(rt; lines.as_slice(), b"bar\nfoo\n".as_slice());
     // end
 }
 
@@ -88,7 +121,7 @@ fn lines_of_example(rt: HostRuntime) {
 fn block_list_new(rt: HostRuntime) {
     // example: block_list new
     let list = BlockList::new(rt.alloc());
-    same!(rt; done(&rt, list.find(b"example.com".as_slice())), None);
+    assert_eq!(rt; done(&rt, list.find(b"example.com".as_slice())), None);
     // end
 }
 
@@ -96,8 +129,8 @@ fn block_list_new(rt: HostRuntime) {
 fn block_list_add(rt: HostRuntime) {
     // example: block_list add
     let mut list = BlockList::new(rt.alloc());
-    holds!(rt; done(&rt, list.add(b"tracker.net".as_slice())));
-    holds!(rt; !done(&rt, list.add(b"tracker.net".as_slice())));
+    assert!(rt; done(&rt, list.add(b"tracker.net".as_slice())));
+    assert!(rt; !done(&rt, list.add(b"tracker.net".as_slice())));
     // end
 }
 
@@ -108,8 +141,8 @@ fn block_list_find(rt: HostRuntime) {
     done(&rt, list.add(b"net".as_slice()));
     done(&rt, list.add(b"tracker.net".as_slice()));
     let found = done(&rt, list.find(b"cdn.tracker.net".as_slice()));
-    same!(rt; found, Some(b"tracker.net".as_slice()));
-    same!(rt; done(&rt, list.find(b"mytracker.org".as_slice())), None);
+    assert_eq!(rt; found, Some(b"tracker.net".as_slice()));
+    assert_eq!(rt; done(&rt, list.find(b"mytracker.org".as_slice())), None);
     // end
 }
 
@@ -120,7 +153,7 @@ fn subtree_example(rt: HostRuntime) {
     let names = map_of(&rt, rt.alloc(), &entries);
     let entries = done(&rt, subtree(rt.alloc(), &names, "log"));
     assert_eq!(rt; entries.len(), 2);
-    same!(rt; entries[1].0.as_str(), "log.level");
+    assert_eq!(rt; entries[1].0.as_str(), "log.level");
     // end
 }
 
@@ -130,7 +163,7 @@ fn drop_subtree_example(rt: HostRuntime) {
     let entries = [("log", 1), ("log.level", 2), ("logs", 3)];
     let mut names = map_of(&rt, rt.alloc(), &entries);
     done(&rt, drop_subtree(rt.alloc(), &mut names, "log"));
-    same!(rt; names.len(), 1);
+    assert_eq!(rt; names.len(), 1);
     // end
 }
 
@@ -143,8 +176,8 @@ fn pack_example(rt: HostRuntime) {
         list.insert("foo", done(&rt, Payload::new(rt.alloc(), b"1".as_slice()))),
     );
     let bytes = done(&rt, pack(rt.alloc(), &list));
-    holds!(rt; bytes.starts_with(b"prefixes".as_slice()));
-    same!(rt; done(&rt, unpack(rt.alloc(), &bytes)).len(), 1);
+    assert!(rt; bytes.starts_with(b"prefixes".as_slice()));
+    assert_eq!(rt; done(&rt, unpack(rt.alloc(), &bytes)).len(), 1);
     // end
 }
 
@@ -156,7 +189,7 @@ fn pack_names_example(rt: HostRuntime) {
         &rt,
         unpack(rt.alloc(), &done(&rt, pack_names(rt.alloc(), &names))),
     );
-    holds!(rt;
+    assert!(rt;
         list.get("foo")
             .is_some_and(|value| value.as_bytes().is_empty())
     );
@@ -167,7 +200,7 @@ fn pack_names_example(rt: HostRuntime) {
 fn unpack_example(rt: HostRuntime) {
     // example: prefixes unpack
     let cut = unpack(rt.alloc(), b"prefixes\x01\0\0".as_slice());
-    holds!(rt; matches!(cut, Err(UnpackError::Truncated(9))));
+    assert!(rt; matches!(cut, Err(UnpackError::Truncated(9))));
     // end
 }
 
@@ -175,7 +208,7 @@ fn unpack_example(rt: HostRuntime) {
 fn payload_new(rt: HostRuntime) {
     // example: payload new
     let payload = done(&rt, Payload::new(rt.alloc(), b"on".as_slice()));
-    same!(rt; payload.as_bytes(), b"on".as_slice());
+    assert_eq!(rt; payload.as_bytes(), b"on".as_slice());
     // end
 }
 
@@ -183,6 +216,6 @@ fn payload_new(rt: HostRuntime) {
 fn payload_as_bytes(rt: HostRuntime) {
     // example: payload as_bytes
     let payload = done(&rt, Payload::new(rt.alloc(), b"".as_slice()));
-    holds!(rt; payload.as_bytes().is_empty());
+    assert!(rt; payload.as_bytes().is_empty());
     // end
 }
