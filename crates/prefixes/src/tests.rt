@@ -102,7 +102,10 @@ fn combine_example(rt: HostRuntime) {
     // example: prefixes combine
     let one = set_of(&rt, rt.alloc(), &["foo", "bar"]);
     let other = set_of(&rt, rt.alloc(), &["bar", "baz"]);
-    assert_eq!(rt; done(&rt, combine(Combination::Union, &one, &other)).len(), 3);
+    assert_eq!(rt;
+        done(&rt, combine(Combination::Union, &one, &other)).len(),
+        3
+    );
     assert!(rt; done(&rt, combine(Combination::Intersection, &one, &other)).contains("bar"));
     assert!(rt; done(&rt, combine(Combination::Difference, &one, &other)).contains("foo"));
     // end
