@@ -8,8 +8,8 @@ It names a function as a check does after 'fn', without the crate's name, and th
 or a lemma for it that stands in a file right in proofs/. With the word 'read' after them someone has read why the goal
 is false with the edit. Without it the prover has to show so at each run, by values: that it has no proof of a goal may
 be so of a right body, too, and so may it be that values break a goal behind a loop that the edit brings in. With the
-word 'searched' the answer to the goal, or to all clauses of its function, is taken out of the proof, which names what
-the edit replaces, and search tries it.
+word 'searched' the answer to the goal, to all clauses where it is one, or to each clause where they have one apiece, is
+taken out of the proof, which names what the edit replaces, and search tries it.
 """
 import os
 import re
@@ -24,6 +24,7 @@ COMMENT = re.compile('//.*|(?<![^ ])-- .*')
 USE = re.compile(r'\buse\s[^;{}]*\{[^}]*\}')
 DEFINITION = re.compile(r'^ *(?:abbrev )?(?:pub )?(\w+) : ', re.M)
 DEFINES = r'^ *((abbrev|pub) )*%s\b|\bfn %s\b'
+ANSWER = r'^pub (?:%s) : .*?(?=^pub |\Z)'
 FUNCTION = re.compile(r'^( *)(?:pub(?:\([a-z]+\))? )?(?:extern "C" )?fn (\w+)')
 LOOP = re.compile(r'\b(for|while|loop)\b')
 # the line at which a body begins where the function's first line does not end with it
@@ -130,8 +131,10 @@ class Edit:
             texts[file] = text.replace(old, new)
         if 'searched' in self.marks:
             file, text = sources.answers(self.goal.function)
-            names = '|'.join({self.goal.name, self.goal.name.partition('-clause-')[0]})
-            texts[file] = re.sub(r'^pub (?:%s) : .*?(?=^pub |\Z)' % names, '', text, flags=re.M | re.S)
+            names = {self.goal.name, self.goal.name.partition('-clause-')[0]}
+            if not re.search(ANSWER % '|'.join(names), text, re.M | re.S):
+                names = {self.goal.name + r'-clause-\S+'}
+            texts[file] = re.sub(ANSWER % '|'.join(names), '', text, flags=re.M | re.S)
         return texts
 
     def loops(self):
