@@ -1,6 +1,6 @@
 """The library for C, installed into a folder, and what is compiled against it.
 
-The archive is the one that PATRICIA_ARCHIVE names, which the gate builds beside, or else the one that `rt lib` makes
+The archive is the one that PATRICIA_ARCHIVE names, which the gate builds beside `rt ci`, or else the one that `rt lib` makes
 in crates/patricia_c. What is not installed here is skipped, but for cc, make and python3.
 """
 import os

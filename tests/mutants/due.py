@@ -2,8 +2,8 @@
 those that have changed since.
 
 packaging/mutants.json says of each crate at which commit that was, by which kit, how many mutants the prover showed
-false by values, and of how many someone read why they are. `earlier` marks a crate whose mutants an earlier judge tried,
-which also counted a proof that fails only because the names of the code in it have changed.
+false by values, and of how many someone read why they are. `earlier` marks a crate of which an earlier judge alone tried
+some: it also counted a proof that fails only because the names of the code in it have changed.
 """
 import json
 import os

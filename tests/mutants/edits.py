@@ -8,8 +8,8 @@ It names a function as a check does after 'fn', without the crate's name, and th
 or a lemma for it that stands in a file right in proofs/. With the word 'read' after them someone has read why the goal
 is false with the edit. Without it the prover has to show so at each run, by values: that it has no proof of a goal may
 be so of a right body, too, and so may it be that values break a goal behind a loop that the edit brings in. With the
-word 'searched' the answer to the goal, to all clauses where it is one, or to each clause where they have one apiece, is
-taken out of the proof, which names what the edit replaces, and search tries it.
+word 'searched' search tries the goal, since the proof names what the edit replaces: the answer to the goal, the one to
+all its clauses, or else those to each of its clauses are taken out of the proof.
 """
 import os
 import re
