@@ -51,7 +51,7 @@ def record(asked):
         raise gate.NotProved('these files differ from the commit: %s. Commit them first' % ', '.join(changed[:9]))
     if asked.trial:
         return {'commit': commit, 'sums': gate.sums(asked.trial)}
-    names = due.names(tree.ROOT, listing.listed(tree.ROOT)) + due.judged_earlier(tree.ROOT)
+    names = due.names(tree.ROOT, listing.listed(tree.ROOT)) + due.untried(tree.ROOT)
     if names:
         raise gate.NotProved('these mutants, or those of these crates, are due: %s. tests/must_fail.py --record tries '
                              'them, and writes down that they are good' % ', '.join(names))

@@ -38,7 +38,7 @@ CALLS = {
     'json': ['patricia_json/src/json.rt'],
     'distance': ['patricia_distance/src/near.rt'],
     'prefixes': [PREFIXES + '%s.rt' % name for name in (
-        'combining', 'completing', 'cutting', 'dotted', 'drawing', 'measuring', 'nearing', 'packing')],
+        'combining', 'completing', 'cutting', 'dotted', 'drawing', 'measuring', 'nearing', 'networks', 'packing')],
     'block_list': [PREFIXES + 'blocking.rt'],
     'payload': [PREFIXES + 'value.rt'],
 }

@@ -132,6 +132,27 @@ class Judged(Small):
         self.assertEqual((status, lines[-1]), (1, '1 passed, 9 failed'))
 
 
+class Searched(Small):
+    def left(self, goal, *names):
+        """The names of the answers that are left for a goal, of a proof that has these."""
+        self.write('crates/small/proofs/one/Answers.antt', 'use Goals as goal\n' + ''.join(
+            '\npub %s : goal.%s\n%s g c = refl\n' % (name, name, name) for name in names))
+        texts = self.edit('any', 'one', '0', 'one %s searched read' % goal).texts(self.sources(), {})
+        found = texts['proofs/one/Answers.antt']
+        self.assertTrue(found.startswith('use Goals as goal\n'))
+        left = [x.split(' : ')[0] for x in found.split('pub ')[1:]]
+        self.assertEqual(found.count('refl'), len(left))
+        return left
+
+    def test_the_answers_to_a_goal_and_to_all_or_each_of_its_clauses_are_taken_out(self):
+        clauses = 'returns-clause-ok', 'returns-clause-err'
+        self.assertEqual(self.left('returns', 'init', 'returns', 'returns-in-Ok'), ['init', 'returns-in-Ok'])
+        self.assertEqual(self.left('returns-clause-ok', 'init', 'returns', 'early'), ['init', 'early'])
+        self.assertEqual(self.left('returns-clause-ok', *clauses, 'early'), ['returns-clause-err', 'early'])
+        self.assertEqual(self.left('returns', 'init', *clauses, 'early'), ['init', 'early'])
+        self.assertEqual(self.left('returns', 'init', 'early'), ['init', 'early'])
+
+
 class Packs(Small):
     def test_edits_of_one_function_stand_in_two_packs(self):
         for name, function, new in ('a', 'one', '1'), ('b', 'one', '2'), ('c', 'kept', '3'):

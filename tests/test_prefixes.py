@@ -3,19 +3,18 @@ model."""
 import array
 import contextlib
 import fcntl
-import json
 import os
 import pty
 import random
 import select
 import shutil
+import signal
 import subprocess
-import tempfile
 import termios
 import time
-from tests.prefixes import model
+from tests.prefixes import model, networks
 from tests.prefixes.pages import FILES, PAGES, commands
-from tests.support import ROOT, Case, each, folder, pairs, run
+from tests.support import BUILDS, ROOT, Case, each, folder, pairs, run
 
 MOST_SECONDS = 120
 
@@ -43,17 +42,23 @@ class Pages(Case):
 class Progress(Case):
     """A terminal has a line for each 100,000 lines of a list, and a file none."""
 
+    READS = {
+        'complete': [], 'near': [], 'stats': [], 'pack': [os.devnull],
+        'combine union': [os.devnull, '-o', os.devnull],
+    }
+
     @classmethod
     def setUpClass(cls):
         cls.path = os.path.join(folder(cls.addClassCleanup), 'long')
         with open(cls.path, 'w', encoding='utf-8') as file:
-            file.writelines('%d\n' % n for n in range(250_000))
+            file.writelines('%d\n' % n for n in range(350_000))
 
-    @each('clang', 'rattle')
-    def terminal(self, build):
+    @each(*pairs(READS))
+    def terminal(self, command, build):
         terminal, errors = pty.openpty()
-        words = [self.program('prefixes', build), 'complete', self.path]
-        subprocess.run(words, stdin=subprocess.DEVNULL, stderr=errors, timeout=MOST_SECONDS, check=False)
+        words = [self.program('prefixes', build), *command.split(), self.path, *self.READS[command]]
+        subprocess.run(words, stdin=subprocess.DEVNULL, stdout=subprocess.DEVNULL, stderr=errors,
+                       timeout=MOST_SECONDS, check=False)
         os.close(errors)
         said = b''
         try:
@@ -62,7 +67,7 @@ class Progress(Case):
         except OSError:  # nothing more is there
             pass
         os.close(terminal)
-        self.assertEqual(said, b'prefixes: 100000 lines read\r\nprefixes: 200000 lines read\r\n')
+        self.assertEqual(said, b''.join(b'prefixes: %d00000 lines read\r\n' % n for n in (1, 2, 3)))
 
     @each('clang', 'rattle')
     def no_terminal(self, build):
@@ -71,76 +76,164 @@ class Progress(Case):
 
 
 class Lists(Case):
-    """5,000 lines about each list are answered as the model does, of the list as lines and packed."""
+    """Each command writes what the model does, of lists of the world and of lines that are made of their names, in each
+    form: the lists packed, too, and read from the standard input."""
 
-    @each(*((command, name, build) for command, name in model.ASKED for build in ('clang', 'rattle')))
-    def lines(self, command, name, build):
-        program = self.program('prefixes', build)
-        table = model.rows(name)
-        lines = model.lines(name, table, random.Random(1))
-        wanted = model.answered(command, table, lines)
-        with tempfile.TemporaryDirectory() as room:
-            packed = os.path.join(room, 'packed')
-            self.assert_ends(run([program, 'pack', model.path(name), packed]))
-            for path in model.path(name), packed:
-                self.assert_ends(run([program, command, path], lines), wanted)
+    @classmethod
+    def setUpClass(cls):
+        cls.room = folder(cls.addClassCleanup)
+        for form in model.FORMS:
+            for place in FILES:
+                shutil.copytree(place, os.path.join(cls.room, form), dirs_exist_ok=True)
+            for name in cls.names(form):
+                with open(os.path.join(cls.room, form, name), 'rb+') as file:
+                    data = model.formed(form, file.read())
+                    file.seek(0)
+                    file.write(data)
 
+    @classmethod
+    def names(cls, form):
+        return [entry.name for entry in os.scandir(os.path.join(cls.room, form)) if entry.is_file()]
 
-def of_object(command, said):
-    """The lines that answer what an object of JSON answers."""
-    if command == 'route':
-        return '-\n' if said['prefix'] is None else '%(prefix)s\t%(target)s\n' % said
-    if command == 'block':
-        return 'passes\n' if said['blocked'] is None else 'blocked\t%(blocked)s\n' % said
-    if command == 'segment':
-        return '\t'.join(said['pieces']) + '\n'
-    names = ['%(name)s\t%(edits)d' % name if command == 'near' else name for name in said['names']]
-    return '%(line)s\t%(count)d\n' % said + ''.join('\t%s\n' % name for name in names)
-
-
-class Objects(Case):
-    """Answers in JSON say what answers in lines say, of the lines of a file and of a list that is the standard
-    input."""
-
-    @each(*((command, name, build) for command, name in model.ASKED for build in ('clang', 'rattle')))
-    def lines(self, command, name, build):
-        table = model.rows(name)
-        lines = model.lines(name, table, random.Random(2))
-        path = os.path.join(folder(self.addCleanup), 'lines')
-        with open(path, 'wb') as file:
-            file.write(lines)
-        with open(model.path(name), 'rb') as file:
-            listed = file.read()
-        ran = run([self.program('prefixes', build), command, '-', '--json', '--lines', path], listed)
-        said = [json.loads(line) for line in ran.stdout.decode().split('\n')[:-1]]
-        self.assertEqual([answer['line'] for answer in said], lines.decode().split('\n')[:-1])
-        answers = ''.join(of_object(command, answer) for answer in said).encode()
-        self.assertEqual(answers, model.answered(command, table, lines))
-        self.assert_ends(ran, ran.stdout)
+    @each(*((*case, build) for case in model.CASES for build in BUILDS))
+    def lists(self, words, form, build):
+        program, room, flags = self.program('prefixes', build), os.path.join(self.room, form), model.FORMS[form]
+        command, name, *more = words.split()
+        lines = b''
+        if words in model.ASKED:
+            lines = model.formed(form, model.asked_lines(words, os.path.join(self.room, 'lines', name)))
+        wanted, status = model.answered((command, name, *more, *flags), lines, room)
+        packed = folder(self.addCleanup)
+        for one in {name, *more} & {*self.names(form)}:
+            out = os.path.join(packed, one)
+            self.assert_ends(run([program, 'pack', one, out, *(flag for flag in flags if flag != '--json')], cwd=room))
+        for place in room, packed:
+            self.assert_ends(run([program, command, name, *more, *flags], lines, cwd=place), wanted, status=status)
+        if lines:
+            with open(os.path.join(room, name), 'rb') as listed, open(os.path.join(packed, 'lines'), 'wb') as file:
+                file.write(lines)
+                data = listed.read()
+            read = [program, command, '-', *more, *flags, '--lines', file.name]
+            self.assert_ends(run(read, data), wanted, status=status)
 
 
-class Combined(Case):
-    """Lists of the world are combined as sets are, and what is packed and what has lines are the same names."""
+class Networks(Case):
+    """Networks and addresses at random are answered as Python's `ipaddress` tells them, of a table as lines and packed."""
 
-    WAYS = {'union': set.union, 'intersection': set.intersection, 'difference': set.difference}
+    @each(*((count, build) for count in (1, 30, 1000) for build in ('clang', 'rattle')))
+    def table(self, count, build):
+        chosen, program = random.Random(count), self.program('prefixes', build)
+        table = networks.rows(chosen, count)
+        lines = networks.addresses(chosen, table)
+        paths = [os.path.join(folder(self.addCleanup), name) for name in ('lines', 'packed')]
+        with open(paths[0], 'w', encoding='utf-8') as file:
+            file.writelines('%s\t%s\n' % row for row in table)
+        self.assert_ends(run([program, 'pack', *paths]))
+        # a packed list has each name once, in the order of their bytes
+        for path, rows in zip(paths, (table, sorted(dict(table).items()))):
+            by_network = networks.table(rows)
+            wanted = ''.join(networks.answer(by_network, line) for line in lines).encode()
+            ran = run([program, 'route', path, '--cidr'], ''.join(line + '\n' for line in lines).encode())
+            self.assert_ends(ran, wanted, status=int(not wanted.replace(b'-\n', b'')))
 
-    @each(*pairs(WAYS))
-    def lists(self, way, build):
-        program, room = self.program('prefixes', build), folder(self.addCleanup)
-        names = sorted(model.rows('characters'))
-        parts = [set(random.Random(n).sample(names, len(names) * 3 // 4)) for n in range(3)]
-        paths = [os.path.join(room, name) for name in ('one', 'two', 'three', 'packed', 'lines')]
-        for path, part in zip(paths, parts):
-            with open(path, 'w', encoding='utf-8') as file:
-                file.writelines('%s\tvalue\n' % name for name in part)
-        wanted = sorted(self.WAYS[way](*parts))
-        self.assert_ends(run([program, 'combine', way, *paths[:3], '-o', paths[3]]))
-        self.assert_ends(run([program, 'combine', way, *paths[:3], '-o', paths[4], '--as-lines']))
-        with open(paths[4], encoding='utf-8') as file:
-            self.assertEqual(file.read(), ''.join(name + '\n' for name in wanted))
-        self.assert_ends(run([program, 'pack', paths[4], paths[0]]))
-        with open(paths[0], 'rb') as lines, open(paths[3], 'rb') as packed:
-            self.assertEqual(lines.read(), packed.read())
+
+class Saved(Case):
+    """A list that a command replaces is the old one or the new one, however the command ends."""
+
+    WRITES = {
+        'pack': ['pack', 'list', 'list'],
+        'combine': ['combine', 'union', 'list', 'other', '-o', 'list', '--as-lines'],
+    }
+
+    def setUp(self):
+        self.room = folder(self.addCleanup)
+        self.write('list', range(20_000))
+        self.write('other', range(20_000, 40_000))
+
+    def write(self, name, numbers):
+        with open(os.path.join(self.room, name), 'w', encoding='utf-8') as file:
+            file.writelines('%d\n' % n for n in numbers)
+
+    def read(self):
+        with open(os.path.join(self.room, 'list'), 'rb') as file:
+            return file.read()
+
+    def made(self, command, build):
+        """The old list and the new one, and the words that make it of the old one."""
+        words, old = [self.program('prefixes', build), *self.WRITES[command]], self.read()
+        self.assert_ends(run(words, cwd=self.room))
+        new = self.read()
+        self.assertNotEqual(old, new)
+        self.write('list', range(20_000))
+        return old, new, words
+
+    @each(*pairs(WRITES))
+    def limit(self, command, build):
+        """The system refuses a file of more than 1,024 bytes, by a signal or by an error."""
+        old, _, words = self.made(command, build)
+        for trap in '', 'trap "" XFSZ; ':
+            ran = run(['bash', '-c', trap + 'ulimit -f 1; exec "$@"', 'bash', *words], cwd=self.room)
+            self.assertNotEqual(ran.returncode, 0)
+            self.assertEqual(self.read(), old)
+            self.assertEqual(b'list: File too large' in ran.stderr, bool(trap))
+            if trap:
+                self.assertEqual(len([name for name in os.listdir(self.room) if name.endswith('.tmp')]), 1)
+
+    @each(*pairs(WRITES))
+    def disk(self, command, build):
+        """A disk is full."""
+        old, _, words = self.made(command, build)
+        script = ('mkdir disk && mount -t tmpfs -o size=%dk none disk && cp list other disk && cd disk && '
+                  '! "$@" && cmp list ../list && ls -A' % (2 * len(old) // 1024 + 40))
+        ran = run(['unshare', '-rm', 'bash', '-c', script, 'bash', *words], cwd=self.room)
+        if b'unshare' in ran.stderr or b'mount' in ran.stderr:
+            self.skipTest('no disk can be mounted here')
+        self.assertEqual((ran.returncode, ran.stdout), (0, b'list\nother\n'), ran)
+        self.assertIn(b'list: No space left on device', ran.stderr)
+
+    @each(*pairs(WRITES))
+    def signals(self, command, build):
+        """A signal comes at any time."""
+        old, new, words = self.made(command, build)
+        for delay in range(12):
+            with subprocess.Popen(words, cwd=self.room) as process:
+                time.sleep(delay / 400)
+                process.send_signal((signal.SIGINT, signal.SIGTERM)[delay % 2])
+            self.assertIn(self.read(), (old, new))
+
+
+class Deep(Case):
+    """A name that lies too deep for tree bytes is told with its line, and one of a byte less is right."""
+
+    COMMANDS = {'pack': ['-'], 'stats': [], 'draw': []}
+    MOST = 65_535 * 255
+    SAID = b'prefixes: list: line 2: the name lies too deep: it has more than 16711425 bytes\n'
+
+    @each(*pairs(COMMANDS))
+    def name(self, command, build):
+        room = folder(self.addCleanup)
+        words = [self.program('prefixes', build), command, 'list', *self.COMMANDS[command]]
+        for more in 0, 1:
+            with open(os.path.join(room, 'list'), 'wb') as file:
+                file.write(b'ab\n' + b'x' * (self.MOST + more) + b'\nxy\n')
+            ran = run(words, cwd=room)
+            self.assertEqual((ran.returncode, ran.stderr), (2, self.SAID) if more else (0, b''))
+        # what does not begin with a prefix is no part of a drawing
+        drawn = run([self.program('prefixes', build), 'draw', 'list', 'a'], cwd=room)
+        self.assert_ends(drawn, b'""\n  "ab"\t"ab"\n')
+
+
+class Long(Case):
+    """A line that is much longer than all names is near none, and takes little memory besides its own."""
+
+    LINE, MOST_KILOBYTES = b'foo' * 7_000_000 + b'\n', 400_000
+
+    @each('clang', 'rattle')
+    def line(self, build):
+        path = os.path.join(ROOT, 'tests', 'prefixes', 'lists', 'names')
+        words = [self.program('prefixes', build), 'near', path, '-k', '2']
+        limited = ['bash', '-c', 'ulimit -v %d; exec "$@"' % self.MOST_KILOBYTES, 'bash', *words]
+        self.assert_ends(run(limited, self.LINE), self.LINE[:-1] + b'\t0\n', status=1)
 
 
 def is_read(pipe):
@@ -174,11 +267,12 @@ def run_in_pieces(words, contents, data):
 
 
 class Waiting(Case):
-    """What is answered is written before the next line is whole."""
+    """What is answered is written before the next line is whole, and an interrupt ends the program at once."""
 
     ASKED = {
         'complete': (['names', '-n', '1'], b'foo\nba', b'foo\t3\n\tfoo\n', b'ba\t2\n\tbar\n'),
         'route': (['routes'], b'/x\n/api/u\napi\n/', b'/\troot\n/api/\tapi\n-\n', b'/\troot\n'),
+        'block': (['blocked'], b'net\nx', b'passes\n', b'passes\n'),
     }
 
     @each(*pairs(ASKED))
@@ -193,14 +287,27 @@ class Waiting(Case):
             self.assertEqual(os.read(process.stdout.fileno(), 4096), first)
             rest, _ = process.communicate(b'\n', timeout=MOST_SECONDS)
         self.assertEqual(rest, last)
-        self.assertEqual(process.returncode, 0)
+        self.assertEqual(process.returncode, int(command == 'block'))
+
+    @each(*pairs(['complete names --lines', 'near', 'pack', 'combine union']))
+    def interrupt(self, command, build):
+        """The program waits for lines of a list or of an input that does not end."""
+        words = [self.program('prefixes', build), *command.split(), '-']
+        lists = os.path.join(ROOT, 'tests', 'prefixes', 'lists')
+        with subprocess.Popen(words, stdin=subprocess.PIPE, stdout=subprocess.PIPE, cwd=lists) as process:
+            os.write(process.stdin.fileno(), b'foo\n' * 1000)
+            while not is_read(process.stdin.fileno()):
+                time.sleep(0.001)
+            process.send_signal(signal.SIGINT)
+            self.assertEqual(process.wait(MOST_SECONDS), -signal.SIGINT)
 
 
 class Pieces(Case):
     """Lists, packed lists and lines of input are the same where each read gets one byte."""
 
     ASKED = {
-        'route': ('routes', b'/api/users/7\nx\n'), 'complete': ('names', b'foo\nba\n'),
+        'route': ('routes', b'/api/users/7\nx\n'), 'route --cidr': ('networks', b'10.1.2.3\n::1\n'),
+        'complete': ('names', b'foo\nba\n'),
         'near': ('names', b'fooo\nbat\n'),
         'block': ('blocked', b'eu.ads.example.com\nnet\n'), 'tree': ('settings', b'log\nlo\n'),
         'segment': ('words', b'applepie\n'), 'stats': ('names', b''), 'draw': ('names', b''),
@@ -218,7 +325,7 @@ class Pieces(Case):
     @each(*pairs(ASKED))
     def asked(self, command, build):
         name, lines = self.ASKED[command]
-        words = [self.program('prefixes', build), command]
+        words = [self.program('prefixes', build), *command.split()]
         for path, contents in self.contents(name, build):
             whole = run([*words, path], lines)
             self.assertEqual(whole.returncode, 0)

@@ -2,8 +2,8 @@
 those that have changed since.
 
 packaging/mutants.json says of each crate at which commit that was, by which kit, how many mutants the prover showed
-false by values, and of how many someone read why they are. `earlier` marks a crate of which an earlier judge alone tried
-some: it also counted a proof that fails only because the names of the code in it have changed.
+false by values, and of how many someone read why they are. `untried` marks a crate of which some mutants, or the sources
+that their checks read, have changed since they were tried.
 """
 import json
 import os
@@ -61,9 +61,9 @@ def names(root, crates):
     return found
 
 
-def judged_earlier(root):
-    """The names of the crates whose mutants the present judge has not tried."""
-    return [x for x, of in recorded(root).items() if of.get('earlier')]
+def untried(root):
+    """The names of the crates of which some mutants were not tried as they are."""
+    return [x for x, of in recorded(root).items() if of.get('untried')]
 
 
 def record(root, good):

@@ -1,8 +1,8 @@
 #!/bin/bash
-# Times a program prefixes against the same questions over std's ordered map (tests/prefixes/peer.rs), and against grep,
-# look and tre-agrep where they answer some of them: bench.sh PROGRAM [NAMES [LINES [PROCESSES]]]. It compares what both
-# programs write first, on some lines, and prints for each command and program the best time of so many processes, its
-# user time and its greatest memory.
+# Times a program prefixes against the same questions over std's maps (tests/prefixes/peer.rs), and against grep, look and
+# tre-agrep where they answer some of them: bench.sh PROGRAM [NAMES [LINES [PROCESSES]]]. It compares what both programs
+# write first, on some lines, and prints for each command and program the best time of so many processes, its user time
+# and its greatest memory.
 set -euo pipefail
 program=$(realpath "$1")
 names=${2:-1000000}
@@ -35,12 +35,18 @@ for command in route complete block segment; do
     ./peer "$command" "$command.list" < some > other
     cmp mine other
 done
+head -n 20000 networks.lines > some
+"$program" route networks.list --cidr < some > mine
+./peer networks networks.list < some > other
+cmp mine other
 echo "| $names names, $lines lines | seconds | user seconds | MB |"
 echo '|---|---|---|---|'
 for command in route complete block segment; do
     timed "$command" "$command.lines" "$program" "$command" "$command.list"
     timed "$command, std's ordered map" "$command.lines" ./peer "$command" "$command.list"
 done
+timed "route --cidr" networks.lines "$program" route networks.list --cidr
+timed "route --cidr, std's hash map for each length" networks.lines ./peer networks networks.list
 "$program" pack block.list packed
 timed "block, packed" block.lines "$program" block packed
 timed "block: grep -F -x -f, whole names alone" block.lines grep -F -x -f block.list

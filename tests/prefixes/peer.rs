@@ -1,8 +1,10 @@
-//! peer route|complete|block|segment LIST: what `prefixes` does with a list of lines, over std's ordered map. For
-//! `complete` 10 entries are shown. It stands beside `prefixes` in tests/prefixes/bench.sh, and writes the same.
+//! peer route|complete|block|segment|networks LIST: what `prefixes` does with a list of lines, over std's ordered map, and
+//! for `networks`, which is `route --cidr`, over a hash map of std for each length. For `complete` 10 entries are shown. It
+//! stands beside `prefixes` in tests/prefixes/bench.sh, and writes the same.
 
-use std::collections::BTreeMap;
+use std::collections::{BTreeMap, HashMap};
 use std::io::{self, BufRead, BufReader, BufWriter, Write};
+use std::net::{IpAddr, Ipv4Addr, Ipv6Addr};
 
 type Map = BTreeMap<Vec<u8>, Vec<u8>>;
 
@@ -99,19 +101,77 @@ fn segment(map: &Map, most: usize, line: &[u8], out: &mut impl Write) -> io::Res
     out.write_all(b"\n")
 }
 
+// A network as it is written, and its target.
+type Network = (Vec<u8>, Vec<u8>);
+
+// The networks of each length, by their bits.
+struct Networks {
+    four: Vec<HashMap<u32, Network>>,
+    six: Vec<HashMap<u128, Network>>,
+}
+
+fn first_of_four(address: Ipv4Addr, len: usize) -> u32 {
+    u32::from(address).checked_shr(32 - len as u32).unwrap_or(0)
+}
+
+fn first_of_six(address: Ipv6Addr, len: usize) -> u128 {
+    u128::from(address).checked_shr(128 - len as u32).unwrap_or(0)
+}
+
+impl Networks {
+    fn read(path: &str) -> io::Result<Networks> {
+        let mut table = Networks { four: vec![HashMap::new(); 33], six: vec![HashMap::new(); 129] };
+        for line in BufReader::new(std::fs::File::open(path)?).lines() {
+            let line = line?;
+            let (name, target) = line.split_once('\t').expect("a tab");
+            let network = (name.as_bytes().to_vec(), target.as_bytes().to_vec());
+            let (text, len) = name.split_once('/').expect("a slash");
+            let len: usize = len.parse().expect("a length");
+            match text.parse().expect("an address") {
+                IpAddr::V4(address) => table.four[len].insert(first_of_four(address, len), network),
+                IpAddr::V6(address) => table.six[len].insert(first_of_six(address, len), network),
+            };
+        }
+        Ok(table)
+    }
+
+    // The longest network of an address: each length that has networks is looked up, the longest first.
+    fn of(&self, address: IpAddr) -> Option<&Network> {
+        let find4 = |a, len: usize| self.four[len].get(&first_of_four(a, len));
+        let find6 = |a, len: usize| self.six[len].get(&first_of_six(a, len));
+        match address {
+            IpAddr::V4(a) => (0..33).rev().filter(|len| !self.four[*len].is_empty()).find_map(|len| find4(a, len)),
+            IpAddr::V6(a) => (0..129).rev().filter(|len| !self.six[*len].is_empty()).find_map(|len| find6(a, len)),
+        }
+    }
+
+    fn answer(&self, line: &[u8], out: &mut impl Write) -> io::Result<()> {
+        let address = std::str::from_utf8(line).expect("UTF-8").parse().expect("an address");
+        let Some((text, target)) = self.of(address) else {
+            return out.write_all(b"-\n");
+        };
+        out.write_all(text)?;
+        out.write_all(b"\t")?;
+        out.write_all(target)?;
+        out.write_all(b"\n")
+    }
+}
+
 fn main() -> io::Result<()> {
     let words: Vec<String> = std::env::args().skip(1).collect();
-    let map = read_list(&words[1], words[0] == "block")?;
+    let networks = if words[0] == "networks" { Some(Networks::read(&words[1])?) } else { None };
+    let map = if networks.is_none() { read_list(&words[1], words[0] == "block")? } else { Map::new() };
     let most = map.keys().map(Vec::len).max().unwrap_or(0);
     let mut input = io::stdin().lock();
     let mut out = BufWriter::new(io::stdout().lock());
     let mut line = Vec::new();
     while input.read_until(b'\n', &mut line)? != 0 {
         let row = without_end(&line);
-        match words[0].as_str() {
-            "route" => route(&map, row, &mut out)?,
-            "complete" => complete(&map, row, &mut out)?,
-            "block" => block(&map, row, &mut out)?,
+        match (words[0].as_str(), &networks) {
+            (_, Some(table)) => table.answer(row, &mut out)?,
+            ("route", _) => route(&map, row, &mut out)?,
+            ("complete", _) => complete(&map, row, &mut out)?,
+            ("block", _) => block(&map, row, &mut out)?,
             _ => segment(&map, most, row, &mut out)?,
         }
         line.clear();

@@ -1,12 +1,15 @@
 //! The examples of the calls of prefixes_core, as the documentation has them.
 
 use patricia_tree::{StringPatriciaMap, StringPatriciaSet};
+use prefixes_core::listing::{Destination, Values, read_list};
 use prefixes_core::{
-    BlockList, Combination, Payload, UnpackError, combine, complete, draw, drop_subtree, lines_of,
-    measure, near, pack, pack_names, segment, subtree, unpack,
+    BlockList, Combination, LineFormat, NetworkError, Networks, Payload, SearchedNames,
+    UnpackError, combine, complete, draw, drop_subtree, first_completions, lines_of, measure, near,
+    network_of, pack, pack_names, parse_network, segment, subtree, unpack,
 };
 use std::alloc::Global;
 use std::fmt::Debug;
+use std::net::{IpAddr, Ipv4Addr};
 use std::process::Abort;
 
 // What a call gave. Ends the test if it gave an error.
@@ -61,10 +64,21 @@ fn complete_example(rt: HostRuntime) {
 }
 
 #[test]
+fn first_completions_example(rt: HostRuntime) {
+    // example: prefixes first_completions
+    let map = map_of(&rt, rt.alloc(), &[("foo", 1), ("bar", 2), ("baz", 3)]);
+    let first = done(&rt, first_completions(rt.alloc(), &map, "ba", 1));
+    assert_eq!(rt; first.len(), 1);
+    assert_eq!(rt; first[0].0.as_str(), "bar");
+    // end
+}
+
+#[test]
 fn near_example(rt: HostRuntime) {
-    // example: prefixes near
-    let names = map_of(&rt, rt.alloc(), &[("bar", ()), ("bat", ()), ("foo", ())]);
-    let found = done(&rt, near(rt.alloc(), &names, "bat", 1, 10));
+    // example: prefixes near new
+    let names = map_of(&rt, rt.alloc(), &[("bat", ()), ("bar", ())]);
+    let searched = done(&rt, SearchedNames::new(names));
+    let found = done(&rt, near(rt.alloc(), &searched, "bat", 1, 10));
     assert_eq!(rt; found.first.len(), 2);
     assert_eq!(rt;
         (found.first[0].name.as_str(), found.first[0].edits),
@@ -115,9 +129,50 @@ fn combine_example(rt: HostRuntime) {
 fn lines_of_example(rt: HostRuntime) {
     // example: prefixes lines_of
     let names = set_of(&rt, rt.alloc(), &["foo", "bar"]);
-    let lines = done(&rt, lines_of(rt.alloc(), &names, b'\n'));
+    let format = LineFormat {
+        end: b'\n',
+        keeps_cr: false,
+    };
+    let lines = done(&rt, lines_of(rt.alloc(), &names, format));
     assert_eq!(rt; lines.as_slice(), b"bar\nfoo\n".as_slice());
     // end
+}
+
+// Names that are read of the lines that they are written as.
+fn check_read_back(rt: &impl Abort, alloc: Global, format: LineFormat, written: &[u8]) {
+    let names = set_of(rt, alloc, &["", "bar", "foo bar", "\u{5317}\u{4eac}"]);
+    let lines = done(rt, lines_of(alloc, &names, format));
+    assert_eq!(rt; lines.as_slice(), written);
+    let mut read = StringPatriciaSet::new(alloc);
+    let mut progress: Option<Vec<u8>> = None;
+    done(
+        rt,
+        read_list(
+            alloc,
+            lines.as_slice(),
+            Values::Optional,
+            format,
+            &mut progress,
+            &mut read,
+        ),
+    );
+    assert_eq!(rt; read.len(), 4);
+    for name in ["", "bar", "foo bar", "\u{5317}\u{4eac}"] {
+        assert!(rt; read.contains(name));
+    }
+}
+
+#[test]
+fn lines_are_read_back(rt: HostRuntime) {
+    let mut format = LineFormat {
+        end: b'\n',
+        keeps_cr: false,
+    };
+    let written = b"\t\nbar\nfoo bar\n\xe5\x8c\x97\xe4\xba\xac\n";
+    check_read_back(&rt, rt.alloc(), format, written.as_slice());
+    format.end = 0;
+    let written = b"\t\0bar\0foo bar\0\xe5\x8c\x97\xe4\xba\xac\0";
+    check_read_back(&rt, rt.alloc(), format, written.as_slice());
 }
 
 #[test]
@@ -167,6 +222,31 @@ fn drop_subtree_example(rt: HostRuntime) {
     let mut names = map_of(&rt, rt.alloc(), &entries);
     done(&rt, drop_subtree(rt.alloc(), &mut names, "log"));
     assert_eq!(rt; names.len(), 1);
+    // end
+}
+
+#[test]
+fn parse_network_example(rt: HostRuntime) {
+    // example: prefixes parse_network
+    let address = IpAddr::V4(Ipv4Addr::new(10, 1, 2, 3));
+    assert_eq!(rt; parse_network("10.1.2.3/8"), Ok((address, 8)));
+    assert_eq!(rt; parse_network("10.1.2.3"), Ok((address, 32)));
+    assert_eq!(rt; parse_network("10.1.2.3/33"), Err(NetworkError::NoLength));
+    // end
+}
+
+#[test]
+fn network_of_example(rt: HostRuntime) {
+    // example: prefixes network_of
+    let mut table = Networks::new(rt.alloc());
+    done(
+        &rt,
+        table.add_entry(rt.alloc(), "10.0.0.0/8", b"ten".as_slice()),
+    );
+    done(&rt, table.add_entry(rt.alloc(), "::/0", b"six".as_slice()));
+    let address = IpAddr::V4(Ipv4Addr::new(10, 1, 2, 3));
+    let found = done(&rt, network_of(rt.alloc(), &table, address));
+    assert!(rt; found.is_some_and(|network| network.target.as_bytes() == b"ten".as_slice()));
     // end
 }
 

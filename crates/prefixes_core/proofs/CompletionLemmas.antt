@@ -1,12 +1,12 @@
 -- Laws of the first entries of a list.
-use Rattle.std.proofs.Common.{◌≡◌, ℕ, ◌≤◌, ◌<◌, ◌⊎◌, inl, inr, List, [], ◌∷◌}
+use Rattle.std.proofs.Common.{◌≡◌, ℕ, ◌≤◌, ◌<◌, inl, inr, List, [], ◌∷◌}
 use Rattle.std.proofs.Common.{◌++◌, length, map, take, Some, refl, sym, ap, ◌∙◌, arith}
 use Rattle.std.specs.Prelude.{Result, Ok, Err, OnErr}
-use Rattle.std.proofs.lemmas.List.{append-nil, length-append, length-map, take_all, take-append-le}
+use Rattle.std.proofs.lemmas.List.{append-nil, length-append, length-map, length-take, take_all}
+use Rattle.std.proofs.lemmas.List.{take-append-le}
 use Rattle.std.proofs.lemmas.Bool.{cases_lt}
 use Rattle.patricia_tree.specs.Prefixes.{under}
 use Rattle.patricia_tree.specs.Walks.{YieldsOrErr}
-use Rattle.prefixes_core.specs.Completions.{Completes}
 
 -- a list without elements is empty
 none_of : {R : Type 0} (xs : List R) → length xs ≡ 0 → xs ≡ []
@@ -26,39 +26,27 @@ first_of most first left whole joined few all = elim (cases_lt (length first) mo
       ∙ ap (take most) joined
 ]
 
--- the first entries of a prefix, and their number, where others may be left
-pub completed : {A V : Type 0} (f : A → List ℕ × V) (entries : List (List ℕ × V))
-    (prefix : List ℕ) (most : ℕ) (first : List A) (left : List (List ℕ × V)) (count : ℕ)
-    → map f first ++ left ≡ under prefix entries → count ≡ length (under prefix entries)
-    → length first ≤ most → (length first < most → (length first ≡ count) ⊎ (left ≡ []))
-    → Completes entries prefix most (map f first) count
-completed f entries prefix most first left count joined counted few all =
-    let size = length-map first f in
-    let both = length-append (map f first) left in
-    record {
-      first_is = first_of most (map f first) left _ joined (omega (arith, size, few)) (λ less.
-          elim (all (omega (arith, size, less))) [
-            | inl seen ↦ omega (arith, size, both, ap length joined, seen, counted)
-            | inr none ↦ ap length none
-          ]);
-      count_is = counted;
-    }
+module _ {A V : Type 0} (f : A → List ℕ × V) (entries : List (List ℕ × V)) (prefix : List ℕ)
+    (most : ℕ) (first : List A) (left : List (List ℕ × V))
+    (joined : map f first ++ left ≡ under prefix entries) where
+  -- the first entries of a prefix, where no other is left
+  pub all_first : left ≡ [] → length first ≤ most → map f first ≡ take most (under prefix entries)
+  all_first none few =
+      first_of most (map f first) left _ joined (omega (arith, length-map first f, few))
+      (λ less. ap length none)
 
--- and where none is left
-pub all_completed : {A V : Type 0} (f : A → List ℕ × V) (entries : List (List ℕ × V))
-    (prefix : List ℕ) (most : ℕ) (first : List A) (left : List (List ℕ × V)) (count : ℕ)
-    → map f first ++ left ≡ under prefix entries → left ≡ [] → count ≡ length first
-    → length first ≤ most → Completes entries prefix most (map f first) count
-all_completed f entries prefix most first left count joined none counted few =
-    completed f entries prefix most first left count joined
-    (omega (
-      arith,
-      counted,
-      length-map first f,
-      length-append (map f first) left,
-      ap length none,
-      ap length joined,
-    )) few (λ _. inr none)
+  -- and where they are as many as are taken
+  pub first_full : length first ≡ most → map f first ≡ take most (under prefix entries)
+  first_full full =
+      let size = length-map first f in
+      first_of most (map f first) left _ joined (omega (arith, size, full))
+      (λ less. absurd (omega (arith, size, full, less)))
+
+-- where fewer are there than are taken, they are all
+pub all_counted : {R : Type 0} (most : ℕ) (first whole : List R) → first ≡ take most whole
+    → length first < most → length first ≡ length whole
+all_counted most first whole is less =
+    omega (arith, ap length is, length-take most whole, less)
 
 -- where a walk finds an entry, or runs out of memory, some entry is under the prefix
 pub some_left : {A V E : Type 0} (f : A → List ℕ × V) (entries : List (List ℕ × V))

@@ -4,6 +4,7 @@ pub mod CompletionLemmas
 pub mod CountLemmas
 pub mod CutLemmas
 pub mod DrawingLemmas
+pub mod FarLemmas
 pub mod FaultLemmas
 pub mod LineLemmas
 pub mod ListLemmas
@@ -11,9 +12,11 @@ pub mod LongestLemmas
 pub mod MeasureLemmas
 pub mod NameLemmas
 pub mod NearLemmas
+pub mod NetworkLemmas
 pub mod ObjectLemmas
 pub mod PackLemmas
 pub mod ReachLemmas
+pub mod ReadBackLemmas
 pub mod ReadLemmas
 pub mod RecordLemmas
 pub mod ResultLemmas

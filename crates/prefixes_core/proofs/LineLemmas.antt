@@ -9,39 +9,40 @@ use Rattle.std.proofs.lemmas.List.Elements.{All-push, All-nil}
 use Rattle.memchr.specs.Find.{is_byte2, Passes, Nowhere, NoneBefore}
 use Rattle.patricia_tree.specs.Points.{Has}
 use Rattle.patricia_tree.specs.Walks.{YieldsOrErr}
-use Rattle.prefixes_core.specs.Lines.{line_of, IsCutAt, HasLine}
+use Rattle.prefixes_core.specs.Lines.{line_of, IsCutAt, IsReturn, HasLine}
+use Rattle.prefixes_core.specs.declared.lines.LineFormat.{LineFormat}
 
-module _ (end : ℕ) where
+module _ (format : LineFormat) where
   -- how far names are written: those so far have lines, and these are written
   pub record AreWritten (names left : List (List ℕ)) (written : List ℕ) : Type 0 where
     pub done : List (List ℕ)
     pub joined : done ++ left ≡ names
-    pub lines : written ≡ concat (map (line_of end) done)
-    pub whole : All (HasLine end) done
+    pub lines : written ≡ concat (map (line_of format.end) done)
+    pub whole : All (HasLine format) done
 
   -- none is written at first
   pub none_written : (names : List (List ℕ)) → AreWritten names names []
   none_written names =
-      record { done = []; joined = refl; lines = refl; whole = All-nil (HasLine end) }
+      record { done = []; joined = refl; lines = refl; whole = All-nil (HasLine format) }
 
   -- the lines of one name more
   lines_more : (done : List (List ℕ)) (name : List ℕ)
-      → concat (map (line_of end) (done ++ name ∷ []))
-      ≡ concat (map (line_of end) done) ++ line_of end name
-  lines_more [] name = append-nil (line_of end name)
+      → concat (map (line_of format.end) (done ++ name ∷ []))
+      ≡ concat (map (line_of format.end) done) ++ line_of format.end name
+  lines_more [] name = append-nil (line_of format.end name)
   lines_more (d ∷ done) name =
-      ap (λ l. line_of end d ++ l) (lines_more done name)
-      ∙ sym (append_assoc (line_of end d) (concat (map (line_of end) done)) (line_of end name))
+      ap (λ l. line_of format.end d ++ l) (lines_more done name)
+      ∙ sym (append_assoc (line_of format.end d) (concat (map (line_of format.end) done)) (line_of format.end name))
 
   -- one name more is written
   pub written_more : (names left : List (List ℕ)) (name written more : List ℕ)
-      → HasLine end name → more ≡ written ++ line_of end name
+      → HasLine format name → more ≡ written ++ line_of format.end name
       → AreWritten names (name ∷ left) written → AreWritten names left more
   written_more names left name written more whole is before = record {
     done = before.done ++ name ∷ [];
     joined = append_assoc before.done (name ∷ []) left ∙ before.joined;
-    lines = is ∙ ap (λ l. l ++ line_of end name) before.lines ∙ sym (lines_more before.done name);
-    whole = All-push (HasLine end) before.done name before.whole whole;
+    lines = is ∙ ap (λ l. l ++ line_of format.end name) before.lines ∙ sym (lines_more before.done name);
+    whole = All-push (HasLine format) before.done name before.whole whole;
   }
 
   -- a name that is still to be written is one of all
@@ -55,11 +56,11 @@ module _ (end : ℕ) where
 
   -- all are written at the end
   pub all_written : (names : List (List ℕ)) (written : List ℕ) → AreWritten names [] written
-      → (written ≡ concat (map (line_of end) names)) × All (HasLine end) names
+      → (written ≡ concat (map (line_of format.end) names)) × All (HasLine format) names
   all_written names written are =
       let all : are.done ≡ names = sym (append-nil are.done) ∙ are.joined in (
-        are.lines ∙ ap (λ l. concat (map (line_of end) l)) all,
-        subst (λ l. All (HasLine end) l) all are.whole,
+        are.lines ∙ ap (λ l. concat (map (line_of format.end) l)) all,
+        subst (λ l. All (HasLine format) l) all are.whole,
       )
 
 -- of two tests that one passes
@@ -71,20 +72,31 @@ passes_either : (x a b : ℕ) → (x ≡ a) ⊎ (x ≡ b) → is_byte2 a b x ≡
 passes_either x a b either = grind (arith, nat_tests)
 
 -- where a byte is found that cuts a name, it is cut
-pub cut_found : (end at : ℕ) (bytes name : List ℕ) → bytes ≡ name
-    → NoneBefore (Passes (is_byte2 9 end) bytes) 0 (length bytes) at × Passes (is_byte2 9 end) bytes at
-    → IsCutAt end name at
-cut_found end at bytes name is found = subst (λ n. IsCutAt end n at) is (record {
+pub cut_found : (format : LineFormat) (at : ℕ) (name : List ℕ)
+    → NoneBefore (Passes (is_byte2 9 format.end) name) 0 (length name) at
+    × Passes (is_byte2 9 format.end) name at → IsCutAt format name at
+cut_found format at name found = record {
   inside = found.0.high;
-  byte = either_byte (slice_index bytes at) 9 end found.1;
-})
+  byte = left (either_byte (slice_index name at) 9 format.end found.1);
+}
+  where
+    left : {A B C : Type 0} → A ⊎ B → A ⊎ B ⊎ C
+    left (inl a) = inl a
+    left (inr b) = inr (inl b)
 
--- and where none is found, it has a line
-pub cut_nowhere : (end : ℕ) (bytes name : List ℕ) → bytes ≡ name
-    → Nowhere (Passes (is_byte2 9 end) bytes) 0 (length bytes) → HasLine end name
-cut_nowhere end bytes name is none = subst (HasLine end) is
-    (λ at cut. none at (omega arith) cut.inside
-    (passes_either (slice_index bytes at) 9 end cut.byte))
+-- and where none is found, only a carriage return at the end is no part of its line
+only_return : (format : LineFormat) (name : List ℕ)
+    → Nowhere (Passes (is_byte2 9 format.end) name) 0 (length name) → (at : ℕ)
+    → IsCutAt format name at → IsReturn format name at
+only_return format name none at cut = by cut.byte
+  where
+    by : (slice_index name at ≡ 9) ⊎ (slice_index name at ≡ format.end) ⊎ IsReturn format name at
+        → IsReturn format name at
+    by (inl tab) = absurd (none at (omega arith) cut.inside
+        (passes_either (slice_index name at) 9 format.end (inl tab)))
+    by (inr (inl end)) = absurd (none at (omega arith) cut.inside
+        (passes_either (slice_index name at) 9 format.end (inr end)))
+    by (inr (inr is)) = is
 
 -- an item of a walk that is no error is the first of what was left
 pub yielded : {A B E : Type 0} (shows : A → B) (entries later : List B) (item : Result A E) (x : A)

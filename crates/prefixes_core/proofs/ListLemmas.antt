@@ -1,18 +1,18 @@
 -- The lines of a list.
 use Rattle.std.proofs.Common.{◌≡◌, ◌≢◌, ◌==◌, ℕ, ◌+◌, ◌-◌, true, List, [], ◌∷◌, ◌++◌}
-use Rattle.std.proofs.Common.{length, get_or, take, drop, refl, sym, ap, subst, ◌∙◌, arith}
+use Rattle.std.proofs.Common.{length, get_or, take, drop, sym, ap, ◌∙◌, arith}
 use Rattle.std.specs.Io.BufRead.{strip_last, ends_with_byte}
 use Rattle.std.specs.List.{position_or_len}
-use Rattle.std.specs.Str.{IsUtf8}
 use Rattle.std.proofs.lemmas.Bool.{cond-true, cond-false, and_from, and_right, lt-ltb}
 use Rattle.std.proofs.lemmas.Bool.{eq-eqb, ne_eqb, false_from_ne_true}
 use Rattle.std.proofs.lemmas.List.{take_at, take_all, drop_all, get_or_push, length_push}
 use Rattle.std.proofs.lemmas.List.{length-take}
 use Rattle.std.proofs.lemmas.List.Sums.{position_or_len_is}
 use Rattle.memchr.specs.Find.{is_byte, Passes, Nowhere, NoneBefore}
-use Rattle.prefixes_core.specs.declared.listing.Values.{Values}
-use Rattle.prefixes_core.specs.declared.listing.Values.TheVariants as Need
-use Rattle.prefixes_core.specs.Lists.{name_of, value_of, IsListLine, with_line}
+use Rattle.prefixes_core.specs.declared.listing.EntryError.{EntryError}
+use Rattle.prefixes_core.specs.declared.listing.EntryError.TheVariants as Refusals
+use Rattle.prefixes_core.specs.Lists.{IsEntryFault}
+use Rattle.prefixes_core.specs.Lists.{name_of, value_of}
 
 -- bytes lose their last one where it is the byte that is taken off
 pub stripped : (byte last : ℕ) (front bytes : List ℕ) → bytes ≡ front ++ last ∷ [] → last ≡ byte
@@ -88,23 +88,8 @@ value_none line none =
     sym (ap (λ n. drop (n + 1) line) (no_tab line none)
     ∙ drop_all (length line + 1) line (omega arith))
 
--- a line that is not empty is right where its name is a text that ends where it has to
-pub line_right : (values : Values) (line : List ℕ) → line ≢ [] → IsUtf8 (name_of line)
-    → (values ≡ Need.Needed → name_of line ≢ line) → IsListLine values line
-line_right values [] some utf8 tab = tt
-line_right values (b ∷ line) some utf8 tab = (utf8, tab)
-
--- and an empty one is right
-pub empty_right : (values : Values) (line : List ℕ) → line ≡ [] → IsListLine values line
-empty_right values line none = subst (IsListLine values) (sym none) tt
-
-module _ {S : Type 0} (add : S → List ℕ → List ℕ → S) where
-  -- what is added for a line that is not empty
-  pub line_added : (list : S) (line : List ℕ) → line ≢ []
-      → add list (name_of line) (value_of line) ≡ with_line add list line
-  line_added list [] some = absurd (some refl)
-  line_added list (b ∷ line) some = refl
-
-  -- nothing is added for an empty one
-  pub nothing_added : (list : S) (line : List ℕ) → line ≡ [] → list ≡ with_line add list line
-  nothing_added list line none = sym (ap (with_line add list) none)
+-- what is said of a name that is not taken is so where fewer names are taken
+pub entry_fault_more : (IsName Fewer : List ℕ → Type 0) (name : List ℕ) (e : EntryError)
+    → (Fewer name → IsName name) → IsEntryFault IsName name e → IsEntryFault Fewer name e
+entry_fault_more IsName Fewer name (Refusals.Name fault) taken is = ((λ is_one. is.0 (taken is_one)), is.1)
+entry_fault_more IsName Fewer name Refusals.Memory taken is = tt

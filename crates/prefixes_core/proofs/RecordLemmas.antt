@@ -5,7 +5,6 @@ use Rattle.std.specs.Prelude.{max, sum_by}
 use Rattle.std.specs.List.{fold}
 use Rattle.std.proofs.lemmas.List.{append_assoc, append-nil}
 use Rattle.patricia_tree.specs.Records.{Record, EncodeAll}
-use Rattle.patricia_tree.specs.Siblings.{keys_of}
 use Rattle.patricia_tree.specs.TextKind.{IsTextItem}
 use Rattle.patricia_tree.specs.TreeBytes.{AreTreeBytes}
 use Rattle.prefixes_core.specs.Internal.Splits.{IsFirstRecord, IsNoRecord, AreMeasured, AreRead}
@@ -165,12 +164,11 @@ module _ {V : Type 0} (tree bytes : List ℕ) (entries : List (List ℕ × V)) (
       }
 
   -- what is read of tree bytes are the nodes of the tree of the entries
-  pub tree_read : (those : List (List ℕ × V)) (nodes : List (ℕ × (List ℕ × Bool)))
-      → entries ≡ those → AreRead bytes nodes → AreNodes (keys_of those) nodes
-  tree_read those nodes is read = subst (λ e. AreNodes (keys_of e) nodes) is (record {
+  pub tree_read : (nodes : List (ℕ × (List ℕ × Bool))) → AreRead bytes nodes → AreNodes entries nodes
+  tree_read nodes read = record {
+    tree = tree;
+    are = are;
     records = are.means.records;
-    root = are.means.root;
-    points = are.points are.means.records are.means.spelled;
-    few = are.few are.means.records are.means.spelled;
-    are = read are.means.records spelled_same;
-  })
+    spelled = are.means.spelled;
+    nodes_are = read are.means.records spelled_same;
+  }

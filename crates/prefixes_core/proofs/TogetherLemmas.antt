@@ -30,13 +30,14 @@ use Rattle.prefixes_core.specs.Answers.{route_text}
 use Rattle.prefixes_core.specs.Internal.Cuts.{AreAllSegments, pieces_in}
 use Rattle.prefixes_core.specs.Internal.Together.{CutsLines, AnswersTogether}
 use Rattle.prefixes_core.specs.Internal.Together.{AnswersFront, TakesTogether}
-use Rattle.prefixes_core.specs.Lists.{lines_of}
+use Rattle.prefixes_core.specs.Lists.{cut_at, line_text, lines_of}
 use Rattle.prefixes_core.specs.Segments.{AreSegments}
 use Rattle.prefixes_core.specs.Turns.{Answered, AnswersLine, AnswersAll, answered}
 use Rattle.prefixes_core.specs.declared.answering.Question.{Question}
 use Rattle.prefixes_core.specs.declared.answering.Question.TheVariants as Questions
 use Rattle.prefixes_core.specs.declared.answering.Style.{Style}
 use Rattle.prefixes_core.specs.declared.answering.together.Together.{Together}
+use Rattle.prefixes_core.specs.declared.lines.LineFormat.{LineFormat}
 use Rattle.prefixes_core.proofs.AnswerLemmas.{is_some-map}
 use Rattle.prefixes_core.proofs.LongestLemmas.{longest_at}
 use Rattle.prefixes_core.proofs.SegmentLemmas.{empty_list}
@@ -44,7 +45,7 @@ use Rattle.prefixes_core.proofs.SegmentLemmas.{empty_list}
 -- the first line of bytes ends at the first byte that ends lines
 first_at : (end : ℕ) (bytes more : List ℕ) (k : ℕ) → k < length bytes
     → ((i : ℕ) → i < k → (get_or bytes i 0 == end) ≡ false) → (get_or bytes k 0 == end) ≡ true
-    → lines_of end (bytes ++ more) ≡ take k bytes ∷ lines_of end (drop (suc k) bytes ++ more)
+    → cut_at end (bytes ++ more) ≡ take k bytes ∷ cut_at end (drop (suc k) bytes ++ more)
 first_at end [] more k inside before at = absurd (omega (arith, inside))
 first_at end (b ∷ bytes) more zero inside before at = cond-true (b == end) _ _ at
 first_at end (b ∷ bytes) more (suc k) inside before at =
@@ -53,49 +54,50 @@ first_at end (b ∷ bytes) more (suc k) inside before at =
     (λ i less. before (suc i) (omega (arith, less))) at)
 
 -- a line is cut off where such a byte is found
-pub line_cut : (end : ℕ) (bytes line : List ℕ) (k : ℕ)
-    → NoneBefore (Passes (is_byte end) bytes) 0 (length bytes) k × Passes (is_byte end) bytes k
-    → line ≡ take k bytes → CutsLines end bytes (line ∷ []) (drop (k + 1) bytes)
-line_cut end bytes line k found is =
+pub line_cut : (format : LineFormat) (bytes line : List ℕ) (k : ℕ)
+    → NoneBefore (Passes (is_byte format.end) bytes) 0 (length bytes) k
+    × Passes (is_byte format.end) bytes k → line ≡ line_text format (take k bytes)
+    → CutsLines format bytes (line ∷ []) (drop (k + 1) bytes)
+line_cut format bytes line k found is =
     let next : suc k ≡ k + 1 = omega arith in
-    let none : (i : ℕ) → i < k → (get_or bytes i 0 == end) ≡ false =
+    let none : (i : ℕ) → i < k → (get_or bytes i 0 == format.end) ≡ false =
     λ i less. false_from_ne_true _ (λ same. found.0.before i (omega arith) less same) in
     record {
       front = take (k + 1) bytes;
       joined = sym (take-append-drop (k + 1) bytes);
       first = λ more.
-          first_at end bytes more k found.0.high none found.1
-          ∙ ap (λ l. l ∷ lines_of end (drop (suc k) bytes ++ more)) (sym is)
-          ∙ ap (λ n. line ∷ lines_of end (drop n bytes ++ more)) next;
+          ap (list_map (line_text format)) (first_at format.end bytes more k found.0.high none found.1)
+          ∙ ap (λ l. l ∷ lines_of format (drop (suc k) bytes ++ more)) (sym is)
+          ∙ ap (λ n. line ∷ lines_of format (drop n bytes ++ more)) next;
     }
 
 module _ {L : Type 0} (content : L → List ℕ) where
   -- no line is cut off at first
-  pub none_cut : (end : ℕ) (bytes : List ℕ) (lines : List L) → lines ≡ []
-      → CutsLines end bytes (list_map content lines) bytes
-  none_cut end bytes lines none =
-      subst (λ l. CutsLines end bytes (list_map content l) bytes) (sym none) (record {
+  pub none_cut : (format : LineFormat) (bytes : List ℕ) (lines : List L) → lines ≡ []
+      → CutsLines format bytes (list_map content lines) bytes
+  none_cut format bytes lines none =
+      subst (λ l. CutsLines format bytes (list_map content l) bytes) (sym none) (record {
         front = [];
         joined = refl;
         first = λ more. refl;
       })
 
   -- one line more is
-  pub cut_more : (end : ℕ) (bytes rest later : List ℕ) (lines more : List L) (line : L)
-      → more ≡ lines ++ line ∷ [] → CutsLines end rest (content line ∷ []) later
-      → CutsLines end bytes (list_map content lines) rest
-      → CutsLines end bytes (list_map content more) later
-  cut_more end bytes rest later lines more line is one so_far =
+  pub cut_more : (format : LineFormat) (bytes rest later : List ℕ) (lines more : List L) (line : L)
+      → more ≡ lines ++ line ∷ [] → CutsLines format rest (content line ∷ []) later
+      → CutsLines format bytes (list_map content lines) rest
+      → CutsLines format bytes (list_map content more) later
+  cut_more format bytes rest later lines more line is one so_far =
       let done = list_map content lines in
       let all : list_map content more ≡ done ++ content line ∷ [] =
       ap (list_map content) is ∙ map-append content lines (line ∷ []) in
-      subst (λ l. CutsLines end bytes l later) (sym all) (record {
+      subst (λ l. CutsLines format bytes l later) (sym all) (record {
         front = so_far.front ++ one.front;
         joined = so_far.joined ∙ ap (λ l. so_far.front ++ l) one.joined
             ∙ sym (append_assoc so_far.front one.front later);
         first = λ behind.
             so_far.first behind ∙ ap (λ l. done ++ l) (one.first behind)
-            ∙ sym (append_assoc done (content line ∷ []) (lines_of end (later ++ behind)));
+            ∙ sym (append_assoc done (content line ∷ []) (lines_of format (later ++ behind)));
       })
 
   -- there are as many lines as their list has
@@ -264,13 +266,13 @@ together_behind style question lines none next old new found empty answers is = 
 }
 
 -- the first lines of bytes are cut off and answered
-pub front_answered : {L : Type 0} (content : L → List ℕ) (style : Style) (end : ℕ)
+pub front_answered : {L : Type 0} (content : L → List ℕ) (style : Style) (format : LineFormat)
     (question : Question) (bytes rest none next old new : List ℕ) (lines : List L)
-    (together : Together) → CutsLines end bytes (list_map content lines) rest
+    (together : Together) → CutsLines format bytes (list_map content lines) rest
     → length lines ≡ together.count → together.len ≡ length bytes - length rest → none ≡ []
     → AnswersTogether style question (list_map content lines) none next together.is_found
-    → new ≡ old ++ next → AnswersFront style end question bytes together old new
-front_answered content style end question bytes rest none next old new lines together cuts
+    → new ≡ old ++ next → AnswersFront style format question bytes together old new
+front_answered content style format question bytes rest none next old new lines together cuts
     counted sized empty answers is =
     let all = list_map content lines in
     let joined : length bytes ≡ length cuts.front + length rest =
@@ -286,11 +288,11 @@ front_answered content style end question bytes rest none next old new lines tog
     }
 
 -- none of them is
-pub front_left : (style : Style) (end : ℕ) (question : Question) (bytes old new : List ℕ)
+pub front_left : (style : Style) (format : LineFormat) (question : Question) (bytes old new : List ℕ)
     → new ≡ old
-    → AnswersFront style end question bytes (record { count = 0; len = 0; is_found = false }) old
+    → AnswersFront style format question bytes (record { count = 0; len = 0; is_found = false }) old
     new
-front_left style end question bytes old new same = record {
+front_left style format question bytes old new same = record {
   lines = [];
   rest = bytes;
   cuts = record { front = []; joined = refl; first = λ more. refl };
@@ -319,14 +321,14 @@ buffer_first remaining reader =
     prepended None = tt
     prepended (Some more) = (more, refl)
 
-module _ (style : Style) (end : ℕ) (question : Question) where
+module _ (style : Style) (format : LineFormat) (question : Question) where
   module _ (buffer old out : List ℕ) (together : Together)
-      (front : AnswersFront style end question buffer together old out) where
+      (front : AnswersFront style format question buffer together old out) where
     -- lines at the front of a buffer are taken by dropping their bytes
     dropped : (known new : Option (List ℕ))
         → IfSome known (λ bytes. (more : List ℕ) × (bytes ≡ buffer ++ more))
         → DropsConsumable known new (Some (length buffer)) together.len
-        → IfSome known (λ bytes. TakesTogether style end question bytes new together.count old out
+        → IfSome known (λ bytes. TakesTogether style format question bytes new together.count old out
         together.is_found)
     dropped None new is drops = tt
     dropped (Some bytes) new is drops =
@@ -345,7 +347,7 @@ module _ (style : Style) (end : ℕ) (question : Question) where
           lines = front.lines;
           rest = front.rest ++ more;
           left_is = drops (omega (arith, front.sized)) ∙ ap Some left;
-          first = ap (lines_of end) is.1 ∙ cuts.first more;
+          first = ap (lines_of format) is.1 ∙ cuts.first more;
           counted = front.counted;
           answers = front.answers;
         }
@@ -355,7 +357,7 @@ module _ (style : Style) (end : ℕ) (question : Question) where
         → DropsConsumable (reader_remaining remaining reader) new
         (Some (length (reader_buffer reader))) together.len
         → IfSome (reader_remaining remaining reader)
-        (λ bytes. TakesTogether style end question bytes new together.count old out
+        (λ bytes. TakesTogether style format question bytes new together.count old out
         together.is_found)
     together_taken remaining reader new is drops =
         let known = reader_remaining remaining reader in

@@ -1,21 +1,23 @@
 -- Lines that are answered in turn.
 use Rattle.std.proofs.Common.{◌≡◌, ℕ, ◌+◌, ◌<◌, ◌^◌, ◌||◌, Bool, true, false, List, [], ◌∷◌}
 use Rattle.std.proofs.Common.{◌++◌, length, Option, None, Some, IfSome, refl, sym, ap, subst, ◌∙◌}
-use Rattle.std.proofs.Common.{arith}
-use Rattle.std.specs.Io.BufRead.{strip_last}
+use Rattle.std.proofs.Common.{arith, ◌⊎◌, inl, inr}
 use Rattle.std.specs.Io.KnownBytes.{Appends}
 use Rattle.std.proofs.lemmas.Fn.{FoldsTo-push}
 use Rattle.std.proofs.lemmas.List.{append_assoc, append-nil, length-append, length_push}
-use Rattle.prefixes_core.specs.Answers.{IsFound, IsRightLine, Leaves, Writes}
-use Rattle.prefixes_core.specs.Turns.{AnswersLine, AnswersAll, answered, IsStoppedAt}
-use Rattle.prefixes_core.specs.Internal.Failures.{IsStop, IsKept}
-use Rattle.prefixes_core.specs.Internal.TakenLines.{TakesLine}
+use Rattle.prefixes_core.specs.Answers.{IsAnswerFault, IsFound, IsRightLine, Leaves, Writes}
+use Rattle.prefixes_core.specs.Turns.{Answered, AnswersLine, AnswersAll, answered}
+use Rattle.prefixes_core.specs.Turns.{HasAnswers, IsNextRefused, IsStoppedAt}
+use Rattle.prefixes_core.specs.Internal.Failures.{GetsFirst, IsInputFailure, IsKept, IsNamed}
+use Rattle.prefixes_core.specs.Internal.Failures.{IsOutputFailure, IsWritten}
+use Rattle.prefixes_core.specs.Internal.TakenLines.{read_text, TakesLine}
 use Rattle.prefixes_core.specs.Internal.Together.{TakesTogether}
 use Rattle.prefixes_core.specs.Lists.{lines_of}
 use Rattle.prefixes_core.specs.declared.answering.Question.{Question}
 use Rattle.prefixes_core.specs.declared.answering.Style.{Style}
 use Rattle.prefixes_core.specs.declared.failure.Failure.{Failure}
 use Rattle.prefixes_core.specs.declared.failure.Failure.TheVariants as Failures
+use Rattle.prefixes_core.specs.declared.lines.LineFormat.{LineFormat}
 use Rattle.prefixes_core.proofs.TakenLemmas.{few_lines}
 use Rattle.prefixes_core.proofs.TogetherLemmas.{all_more}
 
@@ -27,27 +29,32 @@ behind_any : (style : Style) (question : Question) (line old new : List ℕ)
 behind_any style question line old new writes =
     (writes.0, writes.1, λ text. (writes.0, refl, writes.2))
 
--- where all that waits is written, nothing waits
-pub kept_all : (old new : Option (List ℕ)) (waiting left : List ℕ) → Appends old new waiting
-    → left ≡ [] → IsKept old new waiting left
-kept_all None new waiting left more none = tt
-kept_all (Some xs) None waiting left more none = absurd more
-kept_all (Some xs) (Some ys) waiting left more none =
-    (ys, refl, ap (λ l. ys ++ l) none ∙ append-nil ys ∙ more)
+-- a failure names no line
+abbrev NamesNone : Failure → Type 0
+NamesNone (Failures.Line path n error) = ⊥
+NamesNone _ = Unit {0}
 
-module _ (style : Style) (end : ℕ) (first : Question) where
-  -- how far the lines of some bytes are answered, where a writer had something before: what it has
-  -- now and what waits are that and the answers so far
+of_output : (e : Failure) → IsOutputFailure e → NamesNone e
+of_output (Failures.Line path n error) is = absurd is
+of_output _ is = tt
+
+of_input : (e : Failure) → IsInputFailure e → NamesNone e
+of_input (Failures.Line path n error) is = absurd is
+of_input _ is = tt
+
+module _ (style : Style) (format : LineFormat) (first : Question) where
+  -- how far the lines of some bytes are answered, where a writer had something before: what it got
+  -- since then and what waits are the answers so far
   pub record AnsweredTo (bytes start : List ℕ) (left contents : Option (List ℕ))
       (question : Question) (found : Bool) (waiting : List ℕ) (number : ℕ) : Type 0 where
     pub done : List (List ℕ)
     pub rest : List ℕ
-    pub put : List ℕ
+    pub part : List ℕ
     pub written : List ℕ
     pub left_is : left ≡ Some rest
-    pub joined : done ++ lines_of end rest ≡ lines_of end bytes
-    pub contents_is : contents ≡ Some put
-    pub kept : put ++ waiting ≡ start ++ written
+    pub joined : done ++ lines_of format rest ≡ lines_of format bytes
+    pub contents_is : contents ≡ Some (start ++ part)
+    pub kept : written ≡ part ++ waiting
     pub answers : AnswersAll style first done (answered question written found)
     pub counted : length done + 1 ≡ number
 
@@ -66,12 +73,12 @@ module _ (style : Style) (end : ℕ) (first : Question) where
   none_answered (Some bytes) (Some start) waiting none = record {
     done = [];
     rest = bytes;
-    put = start;
+    part = [];
     written = [];
     left_is = refl;
     joined = refl;
-    contents_is = refl;
-    kept = ap (λ l. start ++ l) none;
+    contents_is = ap Some (sym (append-nil start));
+    kept = sym none;
     answers = refl;
     counted = omega arith;
   }
@@ -80,16 +87,16 @@ module _ (style : Style) (end : ℕ) (first : Question) where
       (waiting : List ℕ) (number : ℕ) where
     -- one line more is answered
     pub line_answered : (new : Option (List ℕ)) (next : Question) (one : Bool)
-        (read more : List ℕ) → TakesLine end left new true read
-        → IsRightLine question (strip_last end read)
-        → Writes style question (strip_last end read) waiting more
-        → IsFound question (strip_last end read) one → Leaves question (strip_last end read) next
+        (read more : List ℕ) → TakesLine format left new true read
+        → IsRightLine question (read_text format read)
+        → Writes style question (read_text format read) waiting more
+        → IsFound question (read_text format read) one → Leaves question (read_text format read) next
         → IsAnsweredTo known before left contents question found waiting number
         → IsAnsweredTo known before new contents next (found || one) more (number + 1)
     line_answered new next one read more takes right writes finds leaves so_far = by known before so_far
       where
         line : List ℕ
-        line = strip_last end read
+        line = read_text format read
 
         by : (known before : Option (List ℕ))
             → IsAnsweredTo known before left contents question found waiting number
@@ -97,23 +104,22 @@ module _ (style : Style) (end : ℕ) (first : Question) where
         by None before so_far = tt
         by (Some bytes) None so_far = tt
         by (Some bytes) (Some start) so_far =
-            let off = subst (λ l. TakesLine end l new true read) so_far.left_is takes in
-            let own = behind_any style question (strip_last end read) waiting more writes in
+            let off = subst (λ l. TakesLine format l new true read) so_far.left_is takes in
+            let own = behind_any style question (read_text format read) waiting more writes in
             record {
-              done = so_far.done ++ strip_last end read ∷ [];
+              done = so_far.done ++ read_text format read ∷ [];
               rest = off.0;
-              put = so_far.put;
+              part = so_far.part;
               written = so_far.written ++ own.0;
               left_is = off.1;
-              joined = append_assoc so_far.done (strip_last end read ∷ []) (lines_of end off.0)
+              joined = append_assoc so_far.done (read_text format read ∷ []) (lines_of format off.0)
                   ∙ ap (λ l. so_far.done ++ l) (sym off.2) ∙ so_far.joined;
               contents_is = so_far.contents_is;
-              kept = ap (λ l. so_far.put ++ l) own.1
-                  ∙ sym (append_assoc so_far.put waiting own.0)
-                  ∙ ap (λ l. l ++ own.0) so_far.kept
-                  ∙ append_assoc start so_far.written own.0;
+              kept = ap (λ l. l ++ own.0) so_far.kept
+                  ∙ append_assoc so_far.part waiting own.0
+                  ∙ ap (λ l. so_far.part ++ l) (sym own.1);
               answers = FoldsTo-push (AnswersLine style) (answered first [] false) so_far.done
-                  (answered question so_far.written found) (strip_last end read)
+                  (answered question so_far.written found) (read_text format read)
                   (answered next (so_far.written ++ own.0) (found || one)) so_far.answers (record {
                     right = right;
                     writes = own.2 so_far.written;
@@ -123,13 +129,13 @@ module _ (style : Style) (end : ℕ) (first : Question) where
                     leaves = leaves;
                   });
               counted = omega
-                  (arith, length_push so_far.done (strip_last end read), so_far.counted);
+                  (arith, length_push so_far.done (read_text format read), so_far.counted);
             }
 
     -- lines are answered together
     pub together_answered : (new : Option (List ℕ)) (count : ℕ) (one : Bool) (more : List ℕ)
         → IfSome left
-        (λ bytes. TakesTogether style end question bytes new count waiting more one)
+        (λ bytes. TakesTogether style format question bytes new count waiting more one)
         → IsAnsweredTo known before left contents question found waiting number
         → IsAnsweredTo known before new contents question (found || one) more (number + count)
     together_answered new count one more takes so_far = by known before so_far
@@ -141,22 +147,21 @@ module _ (style : Style) (end : ℕ) (first : Question) where
         by (Some bytes) None so_far = tt
         by (Some bytes) (Some start) so_far =
             let taken = subst (λ l. IfSome l
-            (λ bytes. TakesTogether style end question bytes new count waiting more one))
+            (λ bytes. TakesTogether style format question bytes new count waiting more one))
             so_far.left_is takes in
             let own = taken.answers.written in
             record {
               done = so_far.done ++ taken.lines;
               rest = taken.rest;
-              put = so_far.put;
+              part = so_far.part;
               written = so_far.written ++ own;
               left_is = taken.left_is;
-              joined = append_assoc so_far.done taken.lines (lines_of end taken.rest)
+              joined = append_assoc so_far.done taken.lines (lines_of format taken.rest)
                   ∙ ap (λ l. so_far.done ++ l) (sym taken.first) ∙ so_far.joined;
               contents_is = so_far.contents_is;
-              kept = ap (λ l. so_far.put ++ l) taken.answers.behind
-                  ∙ sym (append_assoc so_far.put waiting own)
-                  ∙ ap (λ l. l ++ own) so_far.kept
-                  ∙ append_assoc start so_far.written own;
+              kept = ap (λ l. l ++ own) so_far.kept
+                  ∙ append_assoc so_far.part waiting own
+                  ∙ ap (λ l. so_far.part ++ l) (sym taken.answers.behind);
               answers = all_more style first question so_far.done taken.lines so_far.written own
                   found one so_far.answers taken.answers.answers;
               counted = omega (
@@ -183,22 +188,23 @@ module _ (style : Style) (end : ℕ) (first : Question) where
             record {
               done = so_far.done;
               rest = so_far.rest;
-              put = is.0;
+              part = so_far.part ++ is.0;
               written = so_far.written;
               left_is = so_far.left_is;
               joined = so_far.joined;
-              contents_is = is.1;
-              kept = is.2 ∙ so_far.kept;
+              contents_is = is.1 ∙ ap Some (append_assoc start so_far.part is.0);
+              kept = so_far.kept ∙ ap (λ l. so_far.part ++ l) is.2
+                  ∙ sym (append_assoc so_far.part is.0 more);
               answers = so_far.answers;
               counted = so_far.counted;
             }
 
     -- all lines are answered, and nothing waits
-    pub all_answered : (read : List ℕ) (new : Option (List ℕ)) → TakesLine end left new false read
+    pub all_answered : (read : List ℕ) (new : Option (List ℕ)) → TakesLine format left new false read
         → waiting ≡ [] → IsAnsweredTo known before left contents question found waiting number
         → IfSome known (λ bytes. IfSome before (λ start. length bytes < 2 ^ 63
         → (written : List ℕ)
-        × AnswersAll style first (lines_of end bytes) (answered question written found)
+        × AnswersAll style first (lines_of format bytes) (answered question written found)
         × (contents ≡ Some (start ++ written))))
     all_answered read new takes none so_far = by known before so_far
       where
@@ -206,58 +212,144 @@ module _ (style : Style) (end : ℕ) (first : Question) where
             → IsAnsweredTo known before left contents question found waiting number
             → IfSome known (λ bytes. IfSome before (λ start. length bytes < 2 ^ 63
             → (written : List ℕ)
-            × AnswersAll style first (lines_of end bytes) (answered question written found)
+            × AnswersAll style first (lines_of format bytes) (answered question written found)
             × (contents ≡ Some (start ++ written))))
         by None before so_far = tt
         by (Some bytes) None so_far = tt
         by (Some bytes) (Some start) so_far =
-            let off = subst (λ l. TakesLine end l new false read) so_far.left_is takes in
-            let all : so_far.done ≡ lines_of end bytes =
+            let off = subst (λ l. TakesLine format l new false read) so_far.left_is takes in
+            let all : so_far.done ≡ lines_of format bytes =
             sym (append-nil so_far.done) ∙ ap (λ l. so_far.done ++ l) (sym off) ∙ so_far.joined in
-            let kept : so_far.put ≡ start ++ so_far.written =
-            sym (append-nil so_far.put) ∙ ap (λ l. so_far.put ++ l) (sym none) ∙ so_far.kept in λ _. (
+            let kept : so_far.part ≡ so_far.written =
+            sym (so_far.kept ∙ ap (λ l. so_far.part ++ l) none ∙ append-nil so_far.part) in λ _. (
               so_far.written,
               subst (λ l. AnswersAll style first l (answered question so_far.written found)) all
                   so_far.answers,
-              so_far.contents_is ∙ ap Some kept,
+              so_far.contents_is ∙ ap (λ l. Some (start ++ l)) kept,
             )
+
+    -- what is written before a failure is the answers so far, or the first of them
+    has_answers : (bytes start : List ℕ) (written : Option (List ℕ)) (e : Failure)
+        → (so_far : AnsweredTo bytes start left contents question found waiting number)
+        → IsWritten contents written waiting e → HasAnswers start written so_far.written e
+    has_answers bytes start written e so_far puts =
+        by e (subst (λ c. IsWritten c written waiting e) so_far.contents_is puts)
+      where
+        grown : (had bytes : List ℕ) (written : Option (List ℕ)) → Appends (Some had) written bytes
+            → written ≡ Some (had ++ bytes)
+        grown had bytes None more = absurd more
+        grown had bytes (Some has) more = ap Some more
+
+        whole : Appends (Some (start ++ so_far.part)) written waiting
+            → written ≡ Some (start ++ so_far.written)
+        whole more =
+            grown (start ++ so_far.part) waiting written more
+            ∙ ap Some (append_assoc start so_far.part waiting
+            ∙ ap (λ l. start ++ l) (sym so_far.kept))
+
+        by : (e : Failure) → IsWritten (Some (start ++ so_far.part)) written waiting e
+            → HasAnswers start written so_far.written e
+        by (Failures.Output error) first = (
+          so_far.part ++ first.0,
+          first.1,
+          so_far.kept ∙ ap (λ l. so_far.part ++ l) first.2
+              ∙ sym (append_assoc so_far.part first.0 first.1),
+          first.3 ∙ ap Some (append_assoc start so_far.part first.0),
+        )
+        by _ more = whole more
 
     -- a line is refused, and the answers before it are written
     pub line_stops : (new written : Option (List ℕ)) (read : List ℕ) (e : Failure)
-        → TakesLine end left new true read
-        → IsStop question (strip_last end read) number waiting contents written e
+        → TakesLine format left new true read
+        → IsNamed question (read_text format read) number e → IsWritten contents written waiting e
         → IsAnsweredTo known before left contents question found waiting number
         → IfSome known (λ bytes. IfSome before (λ start.
-        IsStoppedAt style first (lines_of end bytes) start written e))
-    line_stops new written read e takes stop so_far = by known before so_far e stop
+        IsStoppedAt style first (lines_of format bytes) start written e))
+    line_stops new written read e takes names puts so_far = by known before so_far
       where
-        grown : (put bytes : List ℕ) (written : Option (List ℕ)) → Appends (Some put) written bytes
-            → written ≡ Some (put ++ bytes)
-        grown put bytes None more = absurd more
-        grown put bytes (Some xs) more = ap Some more
+        refused : (all : Answered) (count : ℕ) (after : List (List ℕ)) (e : Failure)
+            → all.question ≡ question → count + 1 ≡ number
+            → IsNamed question (read_text format read) number e
+            → IsNextRefused all count (read_text format read ∷ after) e
+        refused all count after (Failures.Line path n error) asked counted names = (
+          names.0 ∙ sym counted,
+          subst (λ q. IsAnswerFault q (read_text format read) error) (sym asked) names.1,
+        )
+        refused all count after _ asked counted names = tt
 
         by : (known before : Option (List ℕ))
             → IsAnsweredTo known before left contents question found waiting number
-            → (e : Failure) → IsStop question (strip_last end read) number waiting contents written e
             → IfSome known (λ bytes. IfSome before (λ start.
-            IsStoppedAt style first (lines_of end bytes) start written e))
-        by None before so_far e stop = tt
-        by (Some bytes) None so_far e stop = tt
-        by (Some bytes) (Some start) so_far (Failures.Line path n error) stop =
-            let off = subst (λ l. TakesLine end l new true read) so_far.left_is takes in
-            let has = grown so_far.put waiting written
-            (subst (λ c. Appends c written waiting) so_far.contents_is stop.2) in (
-              so_far.done,
-              strip_last end read,
-              lines_of end off.0,
-              answered question so_far.written found,
-              sym so_far.joined ∙ ap (λ l. so_far.done ++ l) off.2,
-              so_far.answers,
-              stop.0 ∙ sym so_far.counted,
-              stop.1,
-              has ∙ ap Some so_far.kept,
-            )
-        by (Some bytes) (Some start) so_far _ stop = tt
+            IsStoppedAt style first (lines_of format bytes) start written e))
+        by None before so_far = tt
+        by (Some bytes) None so_far = tt
+        by (Some bytes) (Some start) so_far =
+            let off = subst (λ l. TakesLine format l new true read) so_far.left_is takes in
+            record {
+              before = so_far.done;
+              after = read_text format read ∷ lines_of format off.0;
+              all = answered question so_far.written found;
+              joined = sym so_far.joined ∙ ap (λ l. so_far.done ++ l) off.2;
+              answers = so_far.answers;
+              named = refused (answered question so_far.written found) (length so_far.done)
+                  (lines_of format off.0) e refl so_far.counted names;
+              has = has_answers bytes start written e so_far puts;
+            }
+
+    -- something else fails, and the answers so far are written
+    others_stop : (written : Option (List ℕ)) (e : Failure) → NamesNone e
+        → IsWritten contents written waiting e
+        → IsAnsweredTo known before left contents question found waiting number
+        → IfSome known (λ bytes. IfSome before (λ start.
+        IsStoppedAt style first (lines_of format bytes) start written e))
+    others_stop written e other puts so_far = by known before so_far
+      where
+        unnamed : (all : Answered) (count : ℕ) (after : List (List ℕ)) (e : Failure)
+            → NamesNone e → IsNextRefused all count after e
+        unnamed all count after (Failures.Line path n error) other = absurd other
+        unnamed all count [] _ other = tt
+        unnamed all count (line ∷ after) _ other = tt
+
+        by : (known before : Option (List ℕ))
+            → IsAnsweredTo known before left contents question found waiting number
+            → IfSome known (λ bytes. IfSome before (λ start.
+            IsStoppedAt style first (lines_of format bytes) start written e))
+        by None before so_far = tt
+        by (Some bytes) None so_far = tt
+        by (Some bytes) (Some start) so_far = record {
+          before = so_far.done;
+          after = lines_of format so_far.rest;
+          all = answered question so_far.written found;
+          joined = sym so_far.joined;
+          answers = so_far.answers;
+          named = unnamed (answered question so_far.written found) (length so_far.done)
+              (lines_of format so_far.rest) e other;
+          has = has_answers bytes start written e so_far puts;
+        }
+
+    -- the output fails
+    pub output_stops : (written : Option (List ℕ)) (e : Failure) → IsOutputFailure e
+        → GetsFirst contents written waiting
+        → IsAnsweredTo known before left contents question found waiting number
+        → IfSome known (λ bytes. IfSome before (λ start.
+        IsStoppedAt style first (lines_of format bytes) start written e))
+    output_stops written e fails gets = others_stop written e (of_output e fails) (by e fails)
+      where
+        by : (e : Failure) → IsOutputFailure e → IsWritten contents written waiting e
+        by (Failures.Output error) is = gets
+        by _ is = absurd is
+
+    -- the lines are not read, and what waits is written, unless the output fails
+    pub input_stops : (written : Option (List ℕ)) (e : Failure)
+        → IsInputFailure e ⊎ IsOutputFailure e → IsWritten contents written waiting e
+        → IsAnsweredTo known before left contents question found waiting number
+        → IfSome known (λ bytes. IfSome before (λ start.
+        IsStoppedAt style first (lines_of format bytes) start written e))
+    input_stops written e fails = others_stop written e (by fails)
+      where
+        by : IsInputFailure e ⊎ IsOutputFailure e → NamesNone e
+        by (inl input) = of_input e input
+        by (inr output) = of_output e output
 
     -- there are not so many lines
     pub too_long : (P : List ℕ → List ℕ → Type 0) → 2 ^ 63 < number
@@ -271,15 +363,15 @@ module _ (style : Style) (end : ℕ) (first : Question) where
         by None before so_far = tt
         by (Some bytes) None so_far = tt
         by (Some bytes) (Some start) so_far = λ short.
-            let few = few_lines end bytes in
-            let all = length-append so_far.done (lines_of end so_far.rest) in
+            let few = few_lines format bytes in
+            let all = length-append so_far.done (lines_of format so_far.rest) in
             let same = ap length so_far.joined in
             absurd (omega (arith, many, short, few, all, same, so_far.counted))
 
   -- lines are answered together, and what waits may be written
   pub together_put : (known before left contents new put : Option (List ℕ)) (question : Question)
       (found one : Bool) (waiting more kept : List ℕ) (number count : ℕ)
-      → IfSome left (λ bytes. TakesTogether style end question bytes new count waiting more one)
+      → IfSome left (λ bytes. TakesTogether style format question bytes new count waiting more one)
       → IsKept contents put more kept
       → IsAnsweredTo known before left contents question found waiting number
       → IsAnsweredTo known before new put question (found || one) kept (number + count)

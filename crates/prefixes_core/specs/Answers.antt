@@ -6,12 +6,15 @@ use Rattle.std.specs.Bool.{MatchBool}
 use Rattle.std.specs.FinMap as map
 use Rattle.std.specs.Fmt.{decimal}
 use Rattle.std.specs.List.{flat_map, join_by}
+use Rattle.std.specs.Net.Grammar.{IsIpText}
 use Rattle.std.specs.Option.{is_some, option_map}
 use Rattle.std.specs.Str.{IsUtf8, IsValidUpTo}
+use Rattle.std.specs.declared.net.ip_addr.IpAddr.{IpAddr}
 use Rattle.patricia_tree.specs.Keys.{key_cmp}
 use Rattle.patricia_tree.specs.Prefixes.{longest, under}
 use Rattle.prefixes_core.specs.Blocks.{Blocks, Passes, folded}
 use Rattle.prefixes_core.specs.Nearest.{AreNearest}
+use Rattle.prefixes_core.specs.Networks.{network_of}
 use Rattle.prefixes_core.specs.Objects.{object_line, object_text, array_text, option_text}
 use Rattle.prefixes_core.specs.Objects.{string_text, bytes_text}
 use Rattle.prefixes_core.specs.Segments.{AreSegments}
@@ -22,6 +25,7 @@ use Rattle.prefixes_core.specs.declared.answering.Question.{Question}
 use Rattle.prefixes_core.specs.declared.answering.Question.TheVariants as Questions
 use Rattle.prefixes_core.specs.declared.answering.Style.{Style}
 use Rattle.prefixes_core.specs.declared.answering.Style.TheVariants as Styles
+use Rattle.prefixes_core.specs.declared.networks.Network.{Network}
 
 -- the line of some fields: a byte 9 stands between each two, and at its end the byte `end`
 abbrev pub fields_line : ℕ → List (List ℕ) → List ℕ
@@ -79,11 +83,23 @@ route_object line route =
     ∷ (codes "prefix", option_text (option_map (λ r. string_text r.0) route))
     ∷ (codes "target", option_text (option_map (λ r. bytes_text r.1) route)) ∷ [])
 
+-- the object of an address and the network that it is in
+abbrev pub network_object : List ℕ → Option Network → List ℕ
+network_object address network =
+    object_line ((codes "line", bytes_text address)
+    ∷ (codes "prefix", option_text (option_map (λ n. bytes_text n.text) network))
+    ∷ (codes "target", option_text (option_map (λ n. bytes_text n.target) network)) ∷ [])
+
 -- the object of a line, how many names are found, and some of them
 abbrev pub names_object : List ℕ → ℕ → List (List ℕ) → List ℕ
 names_object line count names =
     object_line ((codes "line", string_text line) ∷ (codes "count", decimal count)
     ∷ (codes "names", array_text names) ∷ [])
+
+-- the object of a line and some names that begin with it
+abbrev pub first_object : List ℕ → List (List ℕ) → List ℕ
+first_object line names =
+    object_line ((codes "line", string_text line) ∷ (codes "names", array_text names) ∷ [])
 
 -- the object of a name and how many edits away it is
 abbrev pub near_object : List ℕ × ℕ → List ℕ
@@ -117,11 +133,20 @@ abbrev pub route_text : Style → List ℕ → Option (List ℕ × List ℕ) →
 route_text (Styles.Lines end) line route = route_line end route
 route_text Styles.Json line route = route_object line route
 
+abbrev pub network_text : Style → List ℕ → Option Network → List ℕ
+network_text (Styles.Lines end) address network =
+    route_line end (option_map (λ n. (n.text, n.target)) network)
+network_text Styles.Json address network = network_object address network
+
 abbrev pub complete_text : {V : Type 0} → Style → List ℕ → ℕ → List (List ℕ × V) → List ℕ
 complete_text (Styles.Lines end) line count first =
     count_line end line count ++ name_lines end first
 complete_text Styles.Json line count first =
     names_object line count (list_map (λ e. string_text e.0) first)
+
+abbrev pub first_text : {V : Type 0} → Style → List ℕ → List (List ℕ × V) → List ℕ
+first_text (Styles.Lines end) line first = fields_line end (line ∷ []) ++ name_lines end first
+first_text Styles.Json line first = first_object line (list_map (λ e. string_text e.0) first)
 
 abbrev pub near_text : Style → List ℕ → ℕ → List (List ℕ × ℕ) → List ℕ
 near_text (Styles.Lines end) line count first = count_line end line count ++ near_lines end first
@@ -143,9 +168,14 @@ pieces_text Styles.Json line pieces = pieces_object line pieces
 abbrev pub IsAnswer : Style → Question → List ℕ → List ℕ → Type 0
 IsAnswer style (Questions.Route routes) line written =
     written ≡ route_text style line (longest line (map.entries routes))
+IsAnswer style (Questions.Network table) line written =
+    (address : IpAddr) × IsIpText line address
+    × (written ≡ network_text style line (network_of table address))
 IsAnswer style (Questions.Complete names most) line written =
     let found = under line (map.entries names) in
     written ≡ complete_text style line (length found) (take most found)
+IsAnswer style (Questions.First names most) line written =
+    written ≡ first_text style line (take most (under line (map.entries names)))
 IsAnswer style (Questions.Near names edits most) line written =
     (first : List (List ℕ × ℕ)) × (count : ℕ)
     × AreNearest (map.entries names) line edits most first count
@@ -165,7 +195,11 @@ IsAnswer style (Questions.Segment words) line written =
 -- whether something is found for a line
 abbrev pub IsFound : Question → List ℕ → Bool → Type 0
 IsFound (Questions.Route routes) line found = found ≡ is_some (longest line (map.entries routes))
+IsFound (Questions.Network table) line found =
+    (address : IpAddr) × IsIpText line address × (found ≡ is_some (network_of table address))
 IsFound (Questions.Complete names most) line found =
+    IsTrue found ↔ (under line (map.entries names) ≢ [])
+IsFound (Questions.First names most) line found =
     IsTrue found ↔ (under line (map.entries names) ≢ [])
 IsFound (Questions.Near names edits most) line found =
     (first : List (List ℕ × ℕ)) × (count : ℕ)
@@ -191,13 +225,22 @@ abbrev pub Writes : Style → Question → List ℕ → List ℕ → List ℕ �
 Writes style question line old new =
     (written : List ℕ) × (new ≡ old ++ written) × IsAnswer style question line written
 
--- a line is UTF-8, or a host, which may be any bytes
+-- lines are texts, and not hosts or addresses
+abbrev pub AsksTexts : Question → Type 0
+AsksTexts (Questions.Block names) = ⊥
+AsksTexts (Questions.Network table) = ⊥
+AsksTexts question = Unit {0}
+
+-- a line is UTF-8, or an address, or a host, which may be any bytes
 abbrev pub IsRightLine : Question → List ℕ → Type 0
 IsRightLine (Questions.Block names) line = Unit {0}
+IsRightLine (Questions.Network table) line = (address : IpAddr) × IsIpText line address
 IsRightLine question line = IsUtf8 line
 
 -- what each error says of a line
 abbrev pub IsAnswerFault : Question → List ℕ → AnswerError → Type 0
 IsAnswerFault question line (Errors.NotUtf8 at) =
-    (IsRightLine question line → ⊥) × IsValidUpTo line at
+    AsksTexts question × (IsRightLine question line → ⊥) × IsValidUpTo line at
+IsAnswerFault question line Errors.NotAddress =
+    (AsksTexts question → ⊥) × (IsRightLine question line → ⊥)
 IsAnswerFault question line Errors.Memory = Unit {0}

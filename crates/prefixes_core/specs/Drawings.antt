@@ -106,7 +106,7 @@ drawing Forms.Lines nodes = node_lines (node_text false) [] nodes
 drawing Forms.Graph nodes = graph_text nodes
 drawing Forms.Json nodes = node_lines (node_text true) [] nodes
 
--- the text of the tree of names
-abbrev pub Draws : Form → List (List ℕ) → List ℕ → Type 0
-Draws form names text =
-    (nodes : List (ℕ × (List ℕ × Bool))) × AreNodes names nodes × (text ≡ drawing form nodes)
+-- the text of the tree of the names of entries
+abbrev pub Draws : {V : Type 0} → Form → List (List ℕ × V) → List ℕ → Type 0
+Draws form entries text =
+    (nodes : List (ℕ × (List ℕ × Bool))) × AreNodes entries nodes × (text ≡ drawing form nodes)

@@ -8,6 +8,7 @@ pub mod Lines
 pub mod Lists
 pub mod Measures
 pub mod Nearest
+pub mod Networks
 pub mod Objects
 pub mod Packings
 pub mod Segments

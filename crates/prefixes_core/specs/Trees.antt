@@ -1,8 +1,6 @@
 -- The tree of a list of names, record by record.
 use Rattle.std.specs.Prelude.{◌≡◌, ℕ, Bool, List, length, map, max, sum_by}
 use Rattle.std.specs.List.{fold}
-use Rattle.patricia_tree.specs.Counts.{RecordsArePoints, AreFew}
-use Rattle.patricia_tree.specs.Forests.{Root}
 use Rattle.patricia_tree.specs.Records.{Record, EncodeAll}
 use Rattle.patricia_tree.specs.TextKind.{IsTextItem}
 use Rattle.patricia_tree.specs.TreeBytes.{AreTreeBytes}
@@ -26,12 +24,12 @@ module _ {V : Type 0} where
     pub label_bytes_is : label_bytes ≡ sum_by (λ r. length r.label) records
     pub depth_is : depth ≡ deepest records
 
--- the nodes, each by its level, its label and whether a name ends there, are the records of a tree
--- with exactly these names: one for each point of the names, and the root, where none is longer
--- than 255 bytes
-pub record AreNodes (names : List (List ℕ)) (nodes : List (ℕ × (List ℕ × Bool))) : Type 0 where
-  pub records : List Record
-  pub root : Root IsTextItem records names
-  pub points : RecordsArePoints IsTextItem records names
-  pub few : AreFew records names
-  pub are : nodes ≡ map (λ r. (r.level, (r.label, r.value))) records
+  -- the nodes, each by its level, its label and whether a name ends there, are the records that the
+  -- tree bytes of the entries spell: keys have one encoding, and so their tree is drawn in one way
+  pub record AreNodes (entries : List (List ℕ × V)) (nodes : List (ℕ × (List ℕ × Bool)))
+      : Type 0 where
+    pub tree : List ℕ
+    pub are : AreTreeBytes IsTextItem 2 tree entries
+    pub records : List Record
+    pub spelled : EncodeAll 2 records tree
+    pub nodes_are : nodes ≡ map (λ r. (r.level, (r.label, r.value))) records

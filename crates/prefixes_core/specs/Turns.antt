@@ -33,13 +33,28 @@ abbrev pub AnswersAll : Style → Question → List (List ℕ) → Answered → 
 AnswersAll style question lines all =
     FoldsTo (AnswersLine style) (answered question [] false) lines all
 
--- an error that names a line: the lines before it are answered, and these answers are written
--- behind what was written at the start
-abbrev pub IsStoppedAt : Style → Question → List (List ℕ) → List ℕ → Option (List ℕ) → Failure
-    → Type 0
-IsStoppedAt style question lines start written (Failures.Line path n error) =
-    (before : List (List ℕ)) × (line : List ℕ) × (after : List (List ℕ)) × (all : Answered)
-    × (lines ≡ before ++ line ∷ after) × AnswersAll style question before all
-    × (n ≡ length before + 1) × IsAnswerFault all.question line error
-    × (written ≡ Some (start ++ all.written))
-IsStoppedAt style question lines start written e = Unit {0}
+-- what an error says of the lines from the first one on that is not answered: if it names a line,
+-- it is that one, counted from 1
+abbrev pub IsNextRefused : Answered → ℕ → List (List ℕ) → Failure → Type 0
+IsNextRefused all before (line ∷ after) (Failures.Line path n error) =
+    (n ≡ before + 1) × IsAnswerFault all.question line error
+IsNextRefused all before [] (Failures.Line path n error) = ⊥
+IsNextRefused all before after _ = Unit {0}
+
+-- what the writer has, which had something at the start: all of these answers, or, if the output
+-- failed, the first bytes of them
+abbrev pub HasAnswers : List ℕ → Option (List ℕ) → List ℕ → Failure → Type 0
+HasAnswers start written answers (Failures.Output e) =
+    (part : List ℕ) × (rest : List ℕ) × (answers ≡ part ++ rest) × (written ≡ Some (start ++ part))
+HasAnswers start written answers _ = written ≡ Some (start ++ answers)
+
+-- the program ends early: the first lines are answered, and their answers are written
+pub record IsStoppedAt (style : Style) (question : Question) (lines : List (List ℕ))
+    (start : List ℕ) (written : Option (List ℕ)) (failure : Failure) : Type 0 where
+  pub before : List (List ℕ)
+  pub after : List (List ℕ)
+  pub all : Answered
+  pub joined : lines ≡ before ++ after
+  pub answers : AnswersAll style question before all
+  pub named : IsNextRefused all (length before) after failure
+  pub has : HasAnswers start written all.written failure

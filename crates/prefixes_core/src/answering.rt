@@ -3,24 +3,30 @@
 ghost use Rattle.std.specs.Prelude.{◌≡◌, ℕ, IfOk, OnOk, IfErr};
 ghost use Rattle.std.specs.FinMap as map;
 ghost use Rattle.std.specs.Str.{IsUtf8, IsValidUpTo};
-ghost use Rattle.prefixes_core.specs.Answers.{Writes, IsFound, Leaves, IsRightLine, IsAnswerFault};
+ghost use Rattle.prefixes_core.specs.Answers.{Writes, IsFound, Leaves, AsksTexts};
+ghost use Rattle.prefixes_core.specs.Answers.{IsRightLine, IsAnswerFault};
 ghost use Rattle.prefixes_core.specs.Subtrees.{elsewhere};
 
 pub(crate) mod together;
 mod writing;
 
 use crate::blocking::{BlockList, folded};
-use crate::completing::complete;
+use crate::completing::{complete, first_completions};
 use crate::cutting::segment;
-use crate::dotted::{drop_subtree, subtree};
+use crate::dotted::{begins_some, drop_subtree, subtree};
 use crate::listing::{Listing, Names};
-use crate::nearing::near;
+use crate::nearing::{SearchedNames, near};
+use crate::networks::{Networks, network_of};
 use crate::value::Payload;
 use patricia_tree::router::Router;
 use std::alloc::{AllocError, Global};
+use std::net::IpAddr;
 use std::str;
 use thiserror::Error;
-use writing::{push_blocked, push_completed, push_near, push_pieces, push_route, push_tree};
+use writing::{
+    push_blocked, push_completed, push_first, push_near, push_network, push_pieces, push_route,
+    push_tree,
+};
 
 /// Why a line is not answered.
 #[derive(Clone, Copy, Debug, Drop, PartialEq, Eq, Error)]
@@ -28,6 +34,8 @@ pub enum AnswerError {
     /// From this byte of the line on, counted from 0.
     #[error("not UTF-8 at byte {0}")]
     NotUtf8(usize),
+    #[error("not an IPv4 or IPv6 address")]
+    NotAddress,
     #[error("out of memory")]
     Memory,
 }
@@ -57,10 +65,14 @@ pub enum Style {
 pub enum Question {
     /// The longest prefix that begins the line, and its target.
     Route(Router<String, Payload>),
+    /// The longest network that the address is in, and its target.
+    Network(Networks),
     /// The first so many names that begin with the line, and how many there are.
     Complete(Names, usize),
+    /// The first so many names that begin with the line.
+    First(Names, usize),
     /// The first so many names that are few edits from the line, and how many there are.
-    Near(Names, u32, usize),
+    Near(SearchedNames, u32, usize),
     /// The longest name that covers the host.
     Block(BlockList),
     /// The name and those below it.
@@ -87,6 +99,28 @@ fn route(
     Ok(found.is_some())
 }
 
+fn network(
+    alloc: Global,
+    table: &Networks,
+    line: &[u8],
+    style: Style,
+    out: &mut Vec<u8>,
+) -> Result<bool, AnswerError>
+    ensures written { OnOk result
+        (Writes style (Question.Network table.now) line.now out.old.items out.new.items) }
+    ensures found { IfOk result (λ found. IsFound (Question.Network table.now) line.now found) }
+    ensures right { OnOk result (IsRightLine (Question.Network table.now) line.now) }
+    ensures named { IfErr result (λ e. IsAnswerFault (Question.Network table.now) line.now e) }
+{
+    let address = match IpAddr::parse_ascii(line) {
+        Ok(address) => address,
+        Err(_) => return Err(AnswerError::NotAddress),
+    };
+    let found = network_of(alloc, table, address)?;
+    push_network(alloc, line, found, style, out)?;
+    Ok(found.is_some())
+}
+
 fn complete_all(
     alloc: Global,
     names: &Names,
@@ -105,9 +139,27 @@ fn complete_all(
     Ok(found.count != 0)
 }
 
-fn near_all(
+fn first_all(
     alloc: Global,
     names: &Names,
+    line: &str,
+    most: usize,
+    style: Style,
+    out: &mut Vec<u8>,
+) -> Result<bool, AllocError>
+    ensures written { OnOk result
+        (Writes style (Question.First names.now most) line.now out.old.items out.new.items) }
+    ensures found { IfOk result (λ found.
+        IsFound (Question.First names.now most) line.now found) }
+{
+    let found = first_completions(alloc, names, line, most)?;
+    push_first(alloc, &found, line, style, out)?;
+    Ok(begins_some(names, line))
+}
+
+fn near_all(
+    alloc: Global,
+    names: &SearchedNames,
     line: &str,
     edits: u32,
     most: usize,
@@ -206,7 +258,7 @@ fn text(line: &[u8]) -> Result<&str, AnswerError>
 }
 
 impl Question {
-    // Answers a line that is a text.
+    // Answers a line that is a text, where lines are texts.
     fn answer_text(
         &mut self,
         alloc: Global,
@@ -214,6 +266,7 @@ impl Question {
         style: Style,
         out: &mut Vec<u8>,
     ) -> Result<bool, AllocError>
+        requires { AsksTexts self.old }
         ensures written { OnOk result
             (Writes style self.old line.now out.old.items out.new.items) }
         ensures found { IfOk result (λ found. IsFound self.old line.now found) }
@@ -221,11 +274,12 @@ impl Question {
     {
         match self {
             Question::Route(routes) => route(alloc, routes, line, style, out),
+            Question::Network(_) | Question::Block(_) => unreachable!(),
             Question::Complete(list, most) => complete_all(alloc, list, line, *most, style, out),
+            Question::First(list, most) => first_all(alloc, list, line, *most, style, out),
             Question::Near(list, edits, most) => {
                 near_all(alloc, list, line, *edits, *most, style, out)
             }
-            Question::Block(list) => block(alloc, list, line.as_bytes(), style, out),
             Question::Tree(list) => tree(alloc, list, line, style, out),
             Question::DropTree(list) => drop_tree(alloc, list, line, style, out),
             Question::Segment(list) => cut(alloc, list, line, style, out),
@@ -236,7 +290,8 @@ impl Question {
     ///
     /// # Errors
     ///
-    /// The line is not UTF-8, which only a host need not be; or out of memory.
+    /// The line is not UTF-8, which only a host need not be, or not an address where networks are
+    /// asked about; or out of memory.
     pub fn answer(
         &mut self,
         alloc: Global,
@@ -251,8 +306,10 @@ impl Question {
         ensures right { OnOk result (IsRightLine self.old line.now) }
         ensures named { IfErr result (λ e. IsAnswerFault self.old line.now e) }
     {
-        if let Question::Block(list) = self {
-            return Ok(block(alloc, list, line, style, out)?);
+        match self {
+            Question::Network(table) => return network(alloc, table, line, style, out),
+            Question::Block(list) => return Ok(block(alloc, list, line, style, out)?),
+            _ => {}
         }
         match text(line) {
             Ok(line) => Ok(self.answer_text(alloc, line, style, out)?),

@@ -8,7 +8,7 @@ ghost use Rattle.std.specs.Option.{option_map};
 ghost use Rattle.prefixes_core.specs.Blocks.{Blocks, Passes, folded};
 ghost use Rattle.prefixes_core.specs.Internal.Reversed.{key_of, name_of, host_key, AreKeysFound};
 
-use crate::listing::without_end;
+use crate::lines::without_end;
 use patricia_tree::PatriciaSet;
 use std::alloc::{AllocError, Global};
 use std::marker::Model;

@@ -1,6 +1,6 @@
 //! Autocomplete: the first entries that begin with a prefix.
 
-ghost use Rattle.std.specs.Prelude.{◌≢◌, [], IfOk, OnErr};
+ghost use Rattle.std.specs.Prelude.{◌≡◌, ◌≢◌, [], take, IfOk, OnErr};
 ghost use Rattle.std.specs.Prelude.{map as list_map};
 ghost use Rattle.std.specs.FinMap as map;
 ghost use Rattle.patricia_tree.specs.Prefixes.{under};
@@ -14,6 +14,45 @@ use std::alloc::{AllocError, Global};
 pub struct Completions<'a, K: Bytes, V> {
     pub first: Vec<(K, &'a V)>,
     pub count: usize,
+}
+
+/// Returns the first `most` entries whose key begins with the prefix, in key order, for an
+/// autocomplete that shows no number.
+///
+/// Takes a look-up, and time in proportion to the entries that it returns.
+///
+/// # Errors
+///
+/// Out of memory, never if no key begins with the prefix.
+///
+/// # Examples
+///
+/// ```
+/// let map = StringPatriciaMap::from_iter(rt.alloc(), [("foo", 1), ("bar", 2), ("baz", 3)])?;
+/// let first = first_completions(rt.alloc(), &map, "ba", 1)?;
+/// assert_eq!(rt; first.len(), 1);
+/// assert_eq!(rt; first[0].0.as_str(), "bar");
+/// ```
+pub fn first_completions<'a, Q: BorrowedBytes, V: Drop>(
+    alloc: Global,
+    entries: &'a GenericPatriciaMap<Q::Owned, V>,
+    prefix: Q,
+    most: usize,
+) -> Result<Vec<(Q::Owned, &'a V)>, AllocError>
+    ensures ok { IfOk result (λ first.
+        list_map (λ found. (Q.Owned.key found.0, found.1.now)) first.items
+        ≡ take most (under (Q.key prefix) (map.entries entries.now))) }
+    ensures err { OnErr result (under (Q.key prefix) (map.entries entries.now) ≢ []) }
+{
+    let mut left = entries.iter_prefix(prefix);
+    let mut first = Vec::new(alloc);
+    for _ in 0..most {
+        let Some(entry) = left.next() else {
+            return Ok(first);
+        };
+        first.push(entry?)?;
+    }
+    Ok(first)
 }
 
 /// Returns the first `most` entries whose key begins with the prefix, in key order, and the number
@@ -45,16 +84,11 @@ pub fn complete<'a, Q: BorrowedBytes, V: Drop>(
         (list_map (λ found. (Q.Owned.key found.0, found.1.now)) c.first.items) c.count) }
     ensures err { OnErr result (under (Q.key prefix) (map.entries entries.now) ≢ []) }
 {
-    let mut left = entries.iter_prefix(prefix);
-    let mut first = Vec::new(alloc);
-    for _ in 0..most {
-        let Some(entry) = left.next() else {
-            let count = first.len();
-            return Ok(Completions { first, count });
-        };
-        first.push(entry?)?;
-    }
-    // others may be left
-    let count = entries.count_prefix(prefix)?;
+    let first = first_completions(alloc, entries, prefix, most)?;
+    let count = if first.len() < most {
+        first.len()
+    } else {
+        entries.count_prefix(prefix)?
+    };
     Ok(Completions { first, count })
 }

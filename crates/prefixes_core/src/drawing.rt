@@ -59,7 +59,7 @@ fn nodes_of(alloc: Global, tree: &[u8]) -> Result<Vec<Node>, AllocError>
 
 // The nodes of the tree of names.
 fn nodes_for<V: Drop>(alloc: Global, names: &StringPatriciaMap<V>) -> Result<Vec<Node>, PackError>
-    ensures ok { IfOk result (λ nodes. AreNodes (keys_of (map.entries names.now))
+    ensures ok { IfOk result (λ nodes. AreNodes (map.entries names.now)
         (list_map (λ node. (node.level, (node.label, node.is_name))) nodes.items)) }
     ensures too_deep { result ≡ Err PackError.TooDeep
         → TooDeep IsTextItem 2 (keys_of (map.entries names.now)) }
@@ -76,12 +76,13 @@ fn nodes_for<V: Drop>(alloc: Global, names: &StringPatriciaMap<V>) -> Result<Vec
 /// and those with one parent in the order of their labels.
 ///
 /// The first is the root, whose label is empty. A label has at most 255 bytes, so a longer part of
-/// a name is several nodes. Consumes the map. Takes time in proportion to it.
+/// a name is several nodes. They are the records of the names' tree bytes. Consumes the map. Takes
+/// time in proportion to it.
 ///
 /// # Errors
 ///
 /// `TooDeep` where the tree is too deep for tree bytes, which takes names of more than 65,535
-/// bytes; or out of memory.
+/// bytes; or out of memory, even if no name begins with the prefix.
 ///
 /// # Examples
 ///
@@ -99,7 +100,7 @@ pub fn draw<V: Drop>(
     mut names: StringPatriciaMap<V>,
     prefix: &str,
 ) -> Result<Vec<Node>, PackError>
-    ensures ok { IfOk result (λ nodes. AreNodes (keys_of (under prefix.now (map.entries names)))
+    ensures ok { IfOk result (λ nodes. AreNodes (under prefix.now (map.entries names))
         (list_map (λ node. (node.level, (node.label, node.is_name))) nodes.items)) }
     ensures too_deep { result ≡ Err PackError.TooDeep
         → TooDeep IsTextItem 2 (keys_of (under prefix.now (map.entries names))) }

@@ -1,16 +1,13 @@
 //! Why the program does not answer to the end.
 
-ghost use Rattle.std.specs.Prelude.{◌≡◌, [], OnOk, IfErr};
-ghost use Rattle.std.specs.Io.KnownBytes.{Appends};
-ghost use Rattle.prefixes_core.specs.Internal.Failures.{IsLineFailure, IsOutputFailure, IsKept};
-ghost use Rattle.prefixes_core.specs.Internal.Failures.{IsNoLine};
+ghost use Rattle.prefixes_core.specs.Internal.Failures.{IsInputFailure, IsLineFailure};
 
 use crate::answering::AnswerError;
 use crate::combining::LinesError;
 use crate::listing::ListError;
 use crate::packing::PackError;
 use std::alloc::{AllocError, Global};
-use std::io::{self, Write};
+use std::io;
 use thiserror::Error;
 
 /// Why the program does not answer to the end, with the file that it is about.
@@ -78,7 +75,7 @@ pub fn write_failure(alloc: Global, path: &str, error: io::Error) -> Failure {
 
 /// The lines at a path are not read.
 pub fn input_failure(alloc: Global, path: &str, error: io::Error) -> Failure
-    ensures { IsNoLine result }
+    ensures { IsInputFailure result }
 {
     match String::from_str(alloc, path) {
         Ok(path) => Failure::Input(path, error),
@@ -94,30 +91,4 @@ pub fn line_failure(alloc: Global, path: &str, number: u64, error: AnswerError) 
         Ok(path) => Failure::Line(path, number, error),
         Err(_) => Failure::Memory,
     }
-}
-
-/// Writes what is answered so far.
-pub fn put<W: Write>(output: &mut W, out: &mut Vec<u8>) -> Result<(), Failure>
-    ensures written { OnOk result
-        (Appends (W.contents output.old) (W.contents output.new) out.old.items) }
-    ensures none_left { OnOk result (out.new.items ≡ []) }
-    ensures named { IfErr result IsOutputFailure }
-{
-    if let Err(error) = output.write_all(out) {
-        return Err(Failure::Output(error));
-    }
-    if let Err(error) = output.flush() {
-        return Err(Failure::Output(error));
-    }
-    out.clear();
-    Ok(())
-}
-
-/// Writes what is answered so far, where it is time to.
-pub fn put_if<W: Write>(is_time: bool, output: &mut W, out: &mut Vec<u8>) -> Result<(), Failure>
-    ensures kept { OnOk result (IsKept (W.contents output.old) (W.contents output.new)
-        out.old.items out.new.items) }
-    ensures named { IfErr result IsOutputFailure }
-{
-    if is_time { put(output, out) } else { Ok(()) }
 }

@@ -2,7 +2,10 @@
 
 use crate::blocking::BlockList;
 use crate::failure::{Failure, list_failure};
+use crate::lines::LineFormat;
 use crate::listing::{Destination, ListError, Listing, NameSet, Names, Values, read_list};
+use crate::networks::Networks;
+use crate::packable::Packable;
 use crate::value::Payload;
 use patricia_tree::router::Router;
 use std::alloc::Global;
@@ -19,8 +22,8 @@ pub struct Inputs<'r, R: Files, I: Read + Drop, E: Write + Drop> {
     pub standard: Option<I>,
     /// What is told how far long lists are read.
     pub progress: Option<E>,
-    /// The byte that ends each line.
-    pub end: u8,
+    /// How lists and lines are cut off bytes.
+    pub format: LineFormat,
 }
 
 /// What messages call a path, where a hyphen is the standard input.
@@ -42,7 +45,7 @@ impl<'r, R: Files, I: Read + Drop, E: Write + Drop> Inputs<'r, R, I, E> {
             alloc,
             file,
             values,
-            self.end,
+            self.format,
             &mut self.progress,
             destination,
         ) {
@@ -84,6 +87,20 @@ impl<'r, R: Files, I: Read + Drop, E: Write + Drop> Inputs<'r, R, I, E> {
         Ok(names)
     }
 
+    /// Reads the list at a path, of which tree bytes are made.
+    pub fn packable_list(&mut self, path: &str) -> Result<Listing, Failure> {
+        let mut list = Packable(Listing::new(self.alloc));
+        self.add_list(path, Values::Optional, &mut list)?;
+        Ok(list.0)
+    }
+
+    /// Reads the names of the list at a path, of which tree bytes are made.
+    pub fn packable_names(&mut self, path: &str) -> Result<Names, Failure> {
+        let mut names = Packable(Names::new(self.alloc));
+        self.add_list(path, Values::Optional, &mut names)?;
+        Ok(names.0)
+    }
+
     /// Reads the names of the list at a path as a set.
     pub fn set(&mut self, path: &str) -> Result<NameSet, Failure> {
         let mut names = NameSet::new(self.alloc);
@@ -96,6 +113,13 @@ impl<'r, R: Files, I: Read + Drop, E: Write + Drop> Inputs<'r, R, I, E> {
         let mut routes = Router::new(self.alloc);
         self.add_list(path, Values::Needed, &mut routes)?;
         Ok(routes)
+    }
+
+    /// Reads the table of networks at a path.
+    pub fn networks(&mut self, path: &str) -> Result<Networks, Failure> {
+        let mut table = Networks::new(self.alloc);
+        self.add_list(path, Values::Needed, &mut table)?;
+        Ok(table)
     }
 
     /// Reads the block list at a path.

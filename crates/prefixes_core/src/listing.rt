@@ -3,15 +3,16 @@
 ghost use Rattle.std.specs.Prelude.{◌≡◌, ◌≢◌, ◌<◌, ◌^◌, ℕ, List, length};
 ghost use Rattle.std.specs.Prelude.{IfOk, OnOk, IfErr, IfSome};
 ghost use Rattle.std.specs.FinMap as map;
-ghost use Rattle.std.specs.Io.BufRead.{strip_last};
 ghost use Rattle.std.specs.List.{All};
 ghost use Rattle.std.specs.Str.{IsUtf8, IsValidUpTo};
 ghost use Rattle.prefixes_core.specs.Blocks.{folded as folded_name};
-ghost use Rattle.prefixes_core.specs.Lists.{name_of, value_of, lines_of, with_line, with_lines};
-ghost use Rattle.prefixes_core.specs.Lists.{IsListLine, IsLineFault, IsListFault};
+ghost use Rattle.prefixes_core.specs.Lists.{name_of, value_of, lines_of, AddsLine, AddsLines};
+ghost use Rattle.prefixes_core.specs.Lists.{IsListLine, IsLineFault, IsListFault, IsEntryFault};
+ghost use Rattle.prefixes_core.specs.Networks.{IsNetwork, AddsNetwork};
 
 use crate::blocking::{BlockList, folded};
-use crate::lines::next_line;
+use crate::lines::{LineFormat, next_line, read_text, unmarked};
+use crate::networks::{Network, NetworkError, Networks, network_key, parse_network};
 use crate::packing::{HEAD, UnpackError, unpack};
 use crate::value::Payload;
 use memchr::memchr;
@@ -41,8 +42,13 @@ pub enum ListError {
     NotUtf8(u64, usize),
     #[error("line {0}: no tab between a name and its value")]
     NoTab(u64),
+    #[error("line {0}: {1}")]
+    Name(u64, NameError),
     #[error("{0}")]
     Packed(UnpackError),
+    /// The name of an entry of a packed list.
+    #[error("the name {0:?}: {1}")]
+    PackedName(String, NameError),
     #[error("out of memory")]
     Memory,
 }
@@ -69,6 +75,36 @@ impl From<AllocError> for ListError {
     }
 }
 
+/// Why a name is not taken.
+#[derive(Clone, Copy, Debug, Drop, PartialEq, Eq, Error)]
+pub enum NameError {
+    #[error("{0}")]
+    Network(NetworkError),
+    #[error("the name lies too deep: it has more than 16711425 bytes")]
+    TooLong,
+}
+
+/// Why an entry is not added.
+#[derive(Clone, Copy, Debug, Drop, PartialEq, Eq)]
+pub enum EntryError {
+    Name(NameError),
+    Memory,
+}
+
+impl From<AllocError> for EntryError {
+    ghost use Rattle.std.specs.Prelude.{◌≡◌};
+    ghost use Rattle.prefixes_core.specs.declared.listing.EntryError.TheVariants.{Memory};
+
+    ghost from_gives = { λ _ e. e ≡ Memory };
+
+    fn from(_: AllocError) -> EntryError {
+        EntryError::Memory
+    }
+}
+
+/// The most bytes of a name in tree bytes: 65,535 labels of 255 bytes lie below the root.
+pub const MOST_PACKED: usize = 65_535 * 255;
+
 /// Whether each line has a value.
 #[derive(Clone, Copy, PartialEq, Eq)]
 pub enum Values {
@@ -76,22 +112,13 @@ pub enum Values {
     Optional,
 }
 
-/// Bytes without the last one, if that is this byte: a line without what ends it.
-pub fn without_end(bytes: &[u8], end: u8) -> &[u8]
-    ensures { result.now ≡ strip_last end bytes.now }
-{
-    match bytes.split_last() {
-        Some((last, front)) if *last == end => front,
-        _ => bytes,
-    }
-}
-
 // The name and the value of a line, which are separated by the first byte 9.
 fn fields(line: &[u8], number: u64, values: Values) -> Result<(&[u8], &[u8]), ListError>
     ensures name { IfOk result (λ fields. fields.0.now ≡ name_of line.now) }
     ensures value { IfOk result (λ fields. fields.1.now ≡ value_of line.now) }
     ensures tab { OnOk result (values ≡ Values.Needed → name_of line.now ≢ line.now) }
-    ensures named { IfErr result (λ e. IsLineFault values number line.now e) }
+    ensures named { IfErr result (λ e. (e ≡ ListError.NoTab number)
+        × (values ≡ Values.Needed) × (name_of line.now ≡ line.now)) }
 {
     match (memchr(b'\t', line), values) {
         (Some(place), _) => Ok((&line[..place], &line[place + 1..])),
@@ -113,82 +140,127 @@ fn name_text(name: &[u8], number: u64) -> Result<&str, ListError>
     }
 }
 
+// A name of a packed list is not added with its value.
+fn packed_failure(alloc: Global, name: &str, error: EntryError) -> ListError {
+    match (error, String::from_str(alloc, name)) {
+        (EntryError::Name(fault), Ok(name)) => ListError::PackedName(name, fault),
+        _ => ListError::Memory,
+    }
+}
+
 /// What a list is read into.
 pub trait Destination {
-    // what it holds with a name and its value added
-    ghost added: { Self → List ℕ → List ℕ → Self };
+    // which names it takes
+    ghost IsName: { List ℕ → Type 0 };
+
+    // what it holds before and after a name is added with its value
+    ghost Adds: { Self → List ℕ → List ℕ → Self → Type 0 };
 
     /// Adds a name with its value. Of two values for one name the later stays.
     ///
     /// # Errors
     ///
-    /// Out of memory.
-    fn add_entry(&mut self, alloc: Global, name: &str, value: &[u8]) -> Result<(), AllocError>
-        ensures { OnOk result (self.new ≡ added self.old name.now value.now) };
+    /// The name is not one that is taken; or out of memory.
+    fn add_entry(&mut self, alloc: Global, name: &str, value: &[u8]) -> Result<(), EntryError>
+        ensures added { OnOk result (Adds self.old name.now value.now self.new) }
+        ensures taken { OnOk result (IsName name.now) }
+        ensures named { IfErr result (λ e. IsEntryFault IsName name.now e) };
 
     /// Adds the names of a list with their values.
     ///
     /// # Errors
     ///
-    /// Out of memory: some of them are added.
-    fn add_list(&mut self, alloc: Global, list: Listing) -> Result<(), AllocError> {
+    /// A name is not one that is taken, or out of memory: some of them are added.
+    fn add_list(&mut self, alloc: Global, list: Listing) -> Result<(), ListError> {
         for entry in list {
             let (name, value) = entry?;
-            self.add_entry(alloc, name.as_str(), value.as_bytes())?;
+            if let Err(error) = self.add_entry(alloc, name.as_str(), value.as_bytes()) {
+                return Err(packed_failure(alloc, name.as_str(), error));
+            }
         }
         Ok(())
     }
 }
 
 impl Destination for Listing {
-    ghost added = { λ list name value. map.insert list name value };
+    ghost IsName = { λ _. Unit {0} };
 
-    fn add_entry(&mut self, alloc: Global, name: &str, value: &[u8]) -> Result<(), AllocError> {
+    ghost Adds = { λ old name value new. new ≡ map.insert old name value };
+
+    fn add_entry(&mut self, alloc: Global, name: &str, value: &[u8]) -> Result<(), EntryError> {
         match self.insert(name, Payload::new(alloc, value)?) {
             Ok(_) => Ok(()),
-            Err(_) => Err(AllocError),
+            Err(_) => Err(EntryError::Memory),
         }
     }
 }
 
 impl Destination for Names {
-    ghost added = { λ names name _. map.insert names name tt };
+    ghost IsName = { λ _. Unit {0} };
 
-    fn add_entry(&mut self, _alloc: Global, name: &str, _value: &[u8]) -> Result<(), AllocError> {
+    ghost Adds = { λ old name _ new. new ≡ map.insert old name tt };
+
+    fn add_entry(&mut self, _alloc: Global, name: &str, _value: &[u8]) -> Result<(), EntryError> {
         match self.insert(name, ()) {
             Ok(_) => Ok(()),
-            Err(_) => Err(AllocError),
+            Err(_) => Err(EntryError::Memory),
         }
     }
 }
 
 impl Destination for NameSet {
-    ghost added = { λ names name _. map.insert names name tt };
+    ghost IsName = { λ _. Unit {0} };
 
-    fn add_entry(&mut self, _alloc: Global, name: &str, _value: &[u8]) -> Result<(), AllocError> {
+    ghost Adds = { λ old name _ new. new ≡ map.insert old name tt };
+
+    fn add_entry(&mut self, _alloc: Global, name: &str, _value: &[u8]) -> Result<(), EntryError> {
         self.insert(name)?;
         Ok(())
     }
 }
 
 impl Destination for Router<String, Payload> {
-    ghost added = { λ routes name value. map.insert routes name value };
+    ghost IsName = { λ _. Unit {0} };
 
-    fn add_entry(&mut self, alloc: Global, name: &str, value: &[u8]) -> Result<(), AllocError> {
+    ghost Adds = { λ old name value new. new ≡ map.insert old name value };
+
+    fn add_entry(&mut self, alloc: Global, name: &str, value: &[u8]) -> Result<(), EntryError> {
         match self.add(name, Payload::new(alloc, value)?) {
             Ok(_) => Ok(()),
-            Err(_) => Err(AllocError),
+            Err(_) => Err(EntryError::Memory),
         }
     }
 }
 
 impl Destination for BlockList {
-    ghost added = { λ names name _. map.insert names (folded_name name) tt };
+    ghost IsName = { λ _. Unit {0} };
 
-    fn add_entry(&mut self, alloc: Global, name: &str, _value: &[u8]) -> Result<(), AllocError> {
+    ghost Adds = { λ old name _ new. new ≡ map.insert old (folded_name name) tt };
+
+    fn add_entry(&mut self, alloc: Global, name: &str, _value: &[u8]) -> Result<(), EntryError> {
         let name = folded(alloc, name.as_bytes())?;
         self.add(&name)?;
         Ok(())
+    }
+}
+
+impl Destination for Networks {
+    ghost IsName = { IsNetwork };
+
+    ghost Adds = { AddsNetwork };
+
+    fn add_entry(&mut self, alloc: Global, name: &str, value: &[u8]) -> Result<(), EntryError> {
+        let (address, count) = match parse_network(name) {
+            Ok(network) => network,
+            Err(fault) => return Err(EntryError::Name(NameError::Network(fault))),
+        };
+        let key = network_key(alloc, address, count)?;
+        let text = Payload::new(alloc, name.as_bytes())?;
+        let target = Payload::new(alloc, value)?;
+        match self.add(key.as_slice(), Network { text, target }) {
+            Ok(_) => Ok(()),
+            Err(_) => Err(EntryError::Memory),
+        }
     }
 }
 
@@ -200,9 +272,9 @@ fn add_line<S: Destination>(
     number: u64,
     values: Values,
 ) -> Result<(), ListError>
-    ensures added { OnOk result (destination.new ≡ with_line S.added destination.old line.now) }
-    ensures right { OnOk result (IsListLine values line.now) }
-    ensures named { IfErr result (λ e. IsLineFault values number line.now e) }
+    ensures added { OnOk result (AddsLine S.Adds destination.old line.now destination.new) }
+    ensures right { OnOk result (IsListLine S.IsName values line.now) }
+    ensures named { IfErr result (λ e. IsLineFault S.IsName values number line.now e) }
 {
     if line.is_empty() {
         return Ok(());
@@ -215,8 +287,11 @@ fn add_line<S: Destination>(
         Ok(name) => name,
         Err(error) => return Err(error),
     };
-    destination.add_entry(alloc, name, value)?;
-    Ok(())
+    match destination.add_entry(alloc, name, value) {
+        Ok(()) => Ok(()),
+        Err(EntryError::Name(fault)) => Err(ListError::Name(number, fault)),
+        Err(EntryError::Memory) => Err(ListError::Memory),
+    }
 }
 
 // Tells how far a long list is read.
@@ -233,23 +308,23 @@ fn read_lines<R: BufRead, W: Write, S: Destination>(
     alloc: Global,
     reader: &mut R,
     values: Values,
-    end: u8,
+    format: LineFormat,
     progress: &mut Option<W>,
     destination: &mut S,
 ) -> Result<(), ListError>
     ensures read { OnOk result (IfSome (R.remaining reader.old) (λ bytes. length bytes < 2 ^ 63
-        → destination.new ≡ with_lines S.added destination.old (lines_of end bytes))) }
+        → AddsLines S.Adds destination.old (lines_of format bytes) destination.new)) }
     ensures right { OnOk result (IfSome (R.remaining reader.old) (λ bytes. length bytes < 2 ^ 63
-        → All (IsListLine values) (lines_of end bytes))) }
+        → All (IsListLine S.IsName values) (lines_of format bytes))) }
     ensures named { IfErr result (λ e. IfSome (R.remaining reader.old) (λ bytes.
-        IsListFault values (lines_of end bytes) e)) }
+        IsListFault S.IsName values (lines_of format bytes) e)) }
 {
     let mut line = Vec::new(alloc);
     for number in 1..u64::MAX {
-        if !next_line(reader, end, &mut line)? {
+        if !next_line(reader, format, &mut line)? {
             return Ok(());
         }
-        let line = without_end(&line, end);
+        let line = read_text(&line, format);
         match add_line(alloc, destination, line, number, values) {
             Ok(()) => tell(progress, number),
             Err(error) => return Err(error),
@@ -277,7 +352,7 @@ fn read_packed<R: Read, S: Destination>(
     let mut bytes = Vec::new(alloc);
     reader.read_to_end(&mut bytes)?;
     match unpack(alloc, &bytes) {
-        Ok(list) => Ok(destination.add_list(alloc, list)?),
+        Ok(list) => destination.add_list(alloc, list),
         Err(UnpackError::Memory) => Err(ListError::Memory),
         Err(fault) => Err(ListError::Packed(fault)),
     }
@@ -286,9 +361,9 @@ fn read_packed<R: Read, S: Destination>(
 /// Reads a list and adds its entries: packed, if it begins as packed lists do, and else with a line
 /// for each name.
 ///
-/// A line, up to the byte `end`, is a name, and behind its first byte 9 the value. Empty lines are
-/// passed over. Where there is a `progress`, it gets a line for each 100,000 that are read. Takes
-/// memory in proportion to the list and its longest line, and where it is packed to its bytes too.
+/// A line is a name, and after its first byte 9 the value. Empty lines are passed over. If there is
+/// a `progress`, it gets a line for each 100,000 that are read. Takes memory in proportion to the
+/// list and its longest line, and to the bytes of a packed list too.
 ///
 /// # Errors
 ///
@@ -297,15 +372,16 @@ pub fn read_list<R: Read + Drop, W: Write, S: Destination>(
     alloc: Global,
     mut file: R,
     values: Values,
-    end: u8,
+    format: LineFormat,
     progress: &mut Option<W>,
     destination: &mut S,
 ) -> Result<(), ListError> {
     let head = read_head(alloc, &mut file)?;
-    let mut reader = BufReader::new(alloc, head.as_slice().chain(file))?;
     if head.as_slice() == HEAD {
-        read_packed(alloc, &mut reader, destination)
-    } else {
-        read_lines(alloc, &mut reader, values, end, progress, destination)
+        let mut reader = BufReader::new(alloc, head.as_slice().chain(file))?;
+        return read_packed(alloc, &mut reader, destination);
     }
+    let first = unmarked(&head, format);
+    let mut reader = BufReader::new(alloc, first.chain(file))?;
+    read_lines(alloc, &mut reader, values, format, progress, destination)
 }

@@ -67,7 +67,7 @@ fn measure_tree(tree: &[u8]) -> TreeMeasures
 }
 
 // How many bytes the name has at which a cursor stands.
-fn len_at<V: Drop>(cursor: &ReadCursor<'_, String, V>) -> usize
+pub(crate) fn len_at<V: Drop>(cursor: &ReadCursor<'_, String, V>) -> usize
     ensures { (entry : List ℕ × V) → cursor.now.at ≡ Some entry → result ≡ length entry.0 }
 {
     match cursor.key() {
@@ -97,7 +97,7 @@ fn name_bytes<V: Drop>(names: &StringPatriciaMap<V>) -> Result<u128, AllocError>
 /// # Errors
 ///
 /// `TooDeep` where the tree of the names is too deep for tree bytes, which takes names of more
-/// than 65,535 bytes; or out of memory.
+/// than 65,535 bytes; or out of memory, even for a list without names.
 ///
 /// # Examples
 ///

@@ -4,12 +4,14 @@ ghost use Rattle.std.specs.Prelude.{◌≡◌, ◌++◌, ◌∷◌, [], OnOk, co
 ghost use Rattle.std.specs.Prelude.{map as list_map};
 ghost use Rattle.std.specs.Option.{option_map};
 ghost use Rattle.prefixes_core.specs.Answers.{route_object, names_object, near_object};
+ghost use Rattle.prefixes_core.specs.Answers.{first_object};
 ghost use Rattle.prefixes_core.specs.Answers.{block_object, entry_object, tree_object};
-ghost use Rattle.prefixes_core.specs.Answers.{pieces_object};
+ghost use Rattle.prefixes_core.specs.Answers.{network_object, pieces_object};
 ghost use Rattle.prefixes_core.specs.Objects.{string_text, bytes_text, array_text, object_line};
 
 use crate::json::{Bytes, ToJson, push_member};
 use crate::nearing::NearName;
+use crate::networks::Network;
 use crate::value::Payload;
 use std::alloc::{AllocError, Global};
 
@@ -87,6 +89,40 @@ pub fn push_route_object(
     Ok(())
 }
 
+// The text of a network and its target, where there is one.
+fn parts_of_network(network: Option<&Network>) -> (Option<Bytes<'_>>, Option<Bytes<'_>>)
+    ensures text { option_map (λ b. bytes_text b.0.now) result.0
+        ≡ option_map (λ network. bytes_text network.now.text) network.entry }
+    ensures target { option_map (λ b. bytes_text b.0.now) result.1
+        ≡ option_map (λ network. bytes_text network.now.target) network.entry }
+{
+    match network {
+        Some(network) => (
+            Some(Bytes(network.text.as_bytes())),
+            Some(Bytes(network.target.as_bytes())),
+        ),
+        None => (None, None),
+    }
+}
+
+/// Writes which network an address is in, and its target, if it is in one.
+pub fn push_network_object(
+    alloc: Global,
+    line: &[u8],
+    network: Option<&Network>,
+    out: &mut Vec<u8>,
+) -> Result<(), AllocError>
+    ensures { OnOk result (out.new.items ≡ out.old.items ++ network_object line.now
+        (option_map (λ network. network.now) network.entry)) }
+{
+    let (text, target) = parts_of_network(network);
+    push_member(alloc, b'{', "line", &Bytes(line), out)?;
+    push_member(alloc, b',', "prefix", &text, out)?;
+    push_member(alloc, b',', "target", &target, out)?;
+    out.extend_from_slice(b"}\n")?;
+    Ok(())
+}
+
 /// Writes how many names are found for a line, and some of them.
 pub fn push_names_object<T: ToJson>(
     alloc: Global,
@@ -103,6 +139,19 @@ pub fn push_names_object<T: ToJson>(
     push_member(alloc, b',', "names", &names, out)?;
     out.extend_from_slice(b"}\n")?;
     Ok(())
+}
+
+/// Writes some names that begin with a line.
+pub fn push_first_object<T: ToJson>(
+    alloc: Global,
+    line: &str,
+    names: &[T],
+    out: &mut Vec<u8>,
+) -> Result<(), AllocError>
+    ensures { OnOk result (out.new.items
+        ≡ out.old.items ++ first_object line.now (list_map T.text names.now)) }
+{
+    push_values_object(alloc, line, "names", names, out)
 }
 
 /// Writes by which name a host is blocked, if it is.

@@ -1,10 +1,14 @@
 //! The words of the command line.
 
+use crate::lines::LineFormat;
 use clap::{Arg, ArgAction, ArgMatches, Command, value_parser};
 use std::alloc::{AllocError, Global};
 
 /// The version of the program.
 const VERSION: &str = "0.1.0";
+
+// What lists are written to.
+const TO_FILE: &str = "The file to write; - is the standard output";
 
 // A command and one more argument of it. An error is passed on here, and not at each call.
 fn with<'a>(
@@ -67,6 +71,22 @@ fn null<'a>(alloc: Global) -> Arg<'a> {
     )
 }
 
+fn keep_cr<'a>(alloc: Global) -> Arg<'a> {
+    flag(
+        alloc,
+        "keep-cr",
+        "Keep a carriage return at a line's end and a byte order mark; --null keeps them, too",
+    )
+}
+
+// A command with the arguments that say how lines are cut.
+fn with_format<'a>(
+    alloc: Global,
+    command: Result<Command<'a>, AllocError>,
+) -> Result<Command<'a>, AllocError> {
+    with(with(command, null(alloc)), keep_cr(alloc))
+}
+
 fn json<'a>(alloc: Global) -> Arg<'a> {
     flag(alloc, "json", "Answer by an object of JSON on each line")
 }
@@ -84,7 +104,7 @@ fn over_list<'a>(
         "A file with a name on each line, or a packed list; - is the standard input",
     );
     let command = Command::new(alloc, name).about(about);
-    with(with(Ok(command), list), null(alloc))
+    with_format(alloc, with(Ok(command), list))
 }
 
 // A command that shows a list as a whole.
@@ -126,9 +146,23 @@ fn edits<'a>(alloc: Global) -> Arg<'a> {
         .default_value("1")
 }
 
+fn route<'a>(alloc: Global) -> Result<Command<'a>, AllocError> {
+    let about = "Shows the longest prefix of the table that begins each line, and its target";
+    let help = "Routes are networks, such as 10.0.0.0/8, and lines are IPv4 and IPv6 addresses; \
+                otherwise both are texts, which are compared byte by byte";
+    let command = of_lines(alloc, "route", "TABLE", about);
+    with(command, flag(alloc, "cidr", help))
+}
+
 fn complete<'a>(alloc: Global) -> Result<Command<'a>, AllocError> {
     let about = "Shows the first entries that begin with each line, and how many there are";
-    with(of_lines(alloc, "complete", "LIST", about), most(alloc))
+    let no_count = flag(
+        alloc,
+        "no-count",
+        "Show no numbers, which take long to count",
+    );
+    let command = of_lines(alloc, "complete", "LIST", about);
+    with(with(command, most(alloc)), no_count)
 }
 
 fn near<'a>(alloc: Global) -> Result<Command<'a>, AllocError> {
@@ -145,7 +179,7 @@ fn tree<'a>(alloc: Global) -> Result<Command<'a>, AllocError> {
 
 fn pack<'a>(alloc: Global) -> Result<Command<'a>, AllocError> {
     let about = "Writes a list as a packed one, which each command reads in place of it";
-    let out = file(alloc, "OUT", "The file to write");
+    let out = file(alloc, "OUT", TO_FILE);
     with(over_list(alloc, "pack", "LIST", about), out)
 }
 
@@ -161,19 +195,19 @@ fn lists<'a>(alloc: Global) -> Arg<'a> {
 
 // A way to combine lists.
 fn way<'a>(alloc: Global, name: &'a str, about: &'a str) -> Result<Command<'a>, AllocError> {
-    let out = file(alloc, "OUT", "The file to write")
+    let out = Arg::new(alloc, "OUT")
         .short('o')
-        .long("output");
+        .long("output")
+        .value_name("OUT")
+        .help(TO_FILE);
     let lines = flag(
         alloc,
         "as-lines",
         "Write a line for each name in place of a packed list",
     );
     let command = Command::new(alloc, name).about(about);
-    with(
-        with(with(with(Ok(command), lists(alloc)), out), lines),
-        null(alloc),
-    )
+    let command = with(with(with(Ok(command), lists(alloc)), out), lines);
+    with_format(alloc, command)
 }
 
 fn combine<'a>(alloc: Global) -> Result<Command<'a>, AllocError> {
@@ -204,9 +238,19 @@ fn draw<'a>(alloc: Global) -> Result<Command<'a>, AllocError> {
     with(with(of_list(alloc, "draw", about), prefix), dot)
 }
 
-/// The byte that ends each line that a command reads or writes.
-pub fn line_end(matches: &ArgMatches<'_>) -> u8 {
-    if matches.get_flag("null") { 0 } else { b'\n' }
+/// How a command cuts lists and input into lines.
+pub fn line_format(matches: &ArgMatches<'_>) -> LineFormat {
+    if matches.get_flag("null") {
+        LineFormat {
+            end: 0,
+            keeps_cr: true,
+        }
+    } else {
+        LineFormat {
+            end: b'\n',
+            keeps_cr: matches.get_flag("keep-cr"),
+        }
+    }
 }
 
 /// The path that a command has for one of its files, which are required.
@@ -229,10 +273,9 @@ fn program<'a>(alloc: Global) -> Command<'a> {
 
 // The commands that answer lines.
 fn with_questions<'a>(alloc: Global, program: Command<'a>) -> Result<Command<'a>, AllocError> {
-    let route = "Shows the longest prefix of the table that begins each line, and its target";
     let block = "Shows the longest name that is each host, or a domain that it belongs to";
     let segment = "Cuts each line into the longest words of the dictionary";
-    let program = over(Ok(program), of_lines(alloc, "route", "TABLE", route));
+    let program = over(Ok(program), route(alloc));
     let program = over(over(program, complete(alloc)), near(alloc));
     let program = over(program, of_lines(alloc, "block", "LIST", block));
     let program = over(program, tree(alloc));

@@ -1,10 +1,11 @@
 //! The program over its words, its files and its streams.
 
-ghost use Rattle.std.specs.Prelude.{◌≡◌, ◌<◌, ◌≤◌, ◌^◌, ◌++◌, if◌then◌else◌, ℕ, List};
+ghost use Rattle.std.specs.Prelude.{◌≡◌, ◌⊎◌, ◌<◌, ◌≤◌, ◌^◌, ◌++◌, if◌then◌else◌, ℕ, List};
 ghost use Rattle.std.specs.Prelude.{length, IfOk, OnOk, IfErr, OnErr, IfSome, Some};
 ghost use Rattle.std.specs.Io.Buffered.{reader_remaining};
 ghost use Rattle.prefixes_core.specs.Answers.{Writes, IsFound, Leaves, IsRightLine, IsAnswerFault};
-ghost use Rattle.prefixes_core.specs.Internal.Failures.{IsStop, IsNoLine};
+ghost use Rattle.prefixes_core.specs.Internal.Failures.{IsInputFailure, IsNamed};
+ghost use Rattle.prefixes_core.specs.Internal.Failures.{IsOutputFailure, IsWritten};
 ghost use Rattle.prefixes_core.specs.Internal.TakenLines.{TakesLine};
 ghost use Rattle.prefixes_core.specs.Internal.Together.{TakesTogether};
 ghost use Rattle.prefixes_core.specs.Lists.{lines_of};
@@ -12,18 +13,20 @@ ghost use Rattle.prefixes_core.specs.Turns.{AnswersAll, answered, IsStoppedAt};
 
 use crate::answering::together::answer_front;
 use crate::answering::{AnswerError, Question, Style};
-use crate::failure::{Failure, input_failure, line_failure, put, put_if};
+use crate::failure::{Failure, input_failure, line_failure};
 use crate::files::{combine_files, pack_file};
 use crate::inputs::{Inputs, shown};
-use crate::lines::{MOST_TOGETHER, next_line};
-use crate::listing::without_end;
-use crate::options::{self, line_end, path};
+use crate::lines::{LineFormat, MOST_TOGETHER, next_line, read_text, read_unmarked};
+use crate::listing::Names;
+use crate::nearing::SearchedNames;
+use crate::options::{self, line_format, path};
+use crate::output::{put, put_if, stop};
 use crate::showing::{show_measures, show_tree};
 use clap::ArgMatches;
 use memchr::memchr;
 use std::alloc::Global;
 use std::fs;
-use std::io::{BufRead, BufReader, Read, Write};
+use std::io::{self, BufRead, BufReader, ErrorKind, Read, Write};
 use std::rt::Files;
 
 // How many bytes of answers wait for more lines at most, beside those of lines that are answered
@@ -33,9 +36,22 @@ const MOST_WAITING: usize = 1 << 16;
 // Lines with lower numbers are answered: no input has so many.
 const MOST_LINES: u64 = u64::MAX - MOST_TOGETHER as u64;
 
+// The status if nobody reads the standard output any more: that which a shell shows for a program
+// that the signal SIGPIPE ends, as it ends `grep`.
+const CLOSED: u8 = 141;
+
 // How many entries a command shows for each line.
 fn most(matches: &ArgMatches<'_>) -> usize {
     matches.get_one::<u32>("most").unwrap_or(10) as usize
+}
+
+// What `complete` asks.
+fn completions(matches: &ArgMatches<'_>, names: Names, most: usize) -> Question {
+    if matches.get_flag("no-count") {
+        Question::First(names, most)
+    } else {
+        Question::Complete(names, most)
+    }
 }
 
 // What a command asks of names that it finds some of.
@@ -47,10 +63,24 @@ fn some_question<R: Files, I: Read + Drop, E: Write + Drop>(
     let names = inputs.names(path(matches, "LIST"))?;
     let most = most(matches);
     if name == "complete" {
-        return Ok(Question::Complete(names, most));
+        return Ok(completions(matches, names, most));
     }
     let edits = matches.get_one::<u8>("edits").unwrap_or(1);
-    Ok(Question::Near(names, u32::from(edits), most))
+    let searched = SearchedNames::new(names)?;
+    Ok(Question::Near(searched, u32::from(edits), most))
+}
+
+// What the command about routes asks.
+fn route_question<R: Files, I: Read + Drop, E: Write + Drop>(
+    inputs: &mut Inputs<'_, R, I, E>,
+    matches: &ArgMatches<'_>,
+) -> Result<Question, Failure> {
+    let path = path(matches, "TABLE");
+    if matches.get_flag("cidr") {
+        Ok(Question::Network(inputs.networks(path)?))
+    } else {
+        Ok(Question::Route(inputs.router(path)?))
+    }
 }
 
 // What the command about subtrees asks.
@@ -73,7 +103,7 @@ fn question<R: Files, I: Read + Drop, E: Write + Drop>(
     matches: &ArgMatches<'_>,
 ) -> Result<Question, Failure> {
     match name {
-        "route" => Ok(Question::Route(inputs.router(path(matches, "TABLE"))?)),
+        "route" => route_question(inputs, matches),
         "block" => Ok(Question::Block(inputs.block_list(path(matches, "LIST"))?)),
         "segment" => Ok(Question::Segment(inputs.names(path(matches, "DICTIONARY"))?)),
         "complete" | "near" => some_question(inputs, name, matches),
@@ -85,24 +115,34 @@ fn question<R: Files, I: Read + Drop, E: Write + Drop>(
 #[derive(Clone, Copy)]
 struct Asked<'p> {
     path: &'p str,
-    end: u8,
+    format: LineFormat,
     style: Style,
 }
 
-// Reads the next line in place of the one before, and returns whether there is one.
-fn read_line<R: BufRead>(
+// Reads the next line in place of the one before, and returns whether there is one. If it is not
+// read, the answers that wait are written.
+fn read_line<R: BufRead, W: Write>(
     alloc: Global,
     reader: &mut R,
     asked: &Asked<'_>,
     line: &mut Vec<u8>,
+    out: &mut Vec<u8>,
+    output: &mut W,
 ) -> Result<bool, Failure>
-    ensures taken { IfOk result (λ is_some. TakesLine asked.now.end (R.remaining reader.old)
+    ensures taken { IfOk result (λ is_some. TakesLine asked.now.format (R.remaining reader.old)
         (R.remaining reader.new) is_some line.new.items) }
-    ensures named { IfErr result IsNoLine }
+    ensures waits { OnOk result (output.new ≡ output.old) }
+    ensures kept { OnOk result (out.new.items ≡ out.old.items) }
+    ensures named { IfErr result (λ e. IsInputFailure e ⊎ IsOutputFailure e) }
+    ensures before { IfErr result (λ e.
+        IsWritten (W.contents output.old) (W.contents output.new) out.old.items e) }
 {
-    match next_line(reader, asked.end, line) {
+    match next_line(reader, asked.format, line) {
         Ok(is_some) => Ok(is_some),
-        Err(error) => Err(input_failure(alloc, shown(asked.path), error)),
+        Err(error) => {
+            let unread = input_failure(alloc, shown(asked.path), error);
+            Err(stop(output, out, unread))
+        }
     }
 }
 
@@ -132,7 +172,7 @@ fn add_answer(
     Ok(found)
 }
 
-// Answers a line. Where it is refused, what is answered before it is written.
+// Answers a line. If it is refused, the answers before it are written.
 fn answer_line<W: Write>(
     alloc: Global,
     question: &mut Question,
@@ -149,15 +189,16 @@ fn answer_line<W: Write>(
     ensures left { OnOk result (Leaves question.old line.now question.new) }
     ensures right { OnOk result (IsRightLine question.old line.now) }
     ensures waits { OnOk result (output.new ≡ output.old) }
-    ensures named { IfErr result (λ e. IsStop question.old line.now number out.old.items
-        (W.contents output.old) (W.contents output.new) e) }
+    ensures named { IfErr result (λ e. IsNamed question.old line.now number e) }
+    ensures before { IfErr result (λ e.
+        IsWritten (W.contents output.old) (W.contents output.new) out.old.items e) }
 {
     match add_answer(alloc, question, line, asked.style, next, out) {
         Ok(found) => Ok(found),
-        Err(error) => match put(output, out) {
-            Ok(()) => Err(line_failure(alloc, shown(asked.path), number, error)),
-            Err(failure) => Err(failure),
-        },
+        Err(error) => {
+            let failure = line_failure(alloc, shown(asked.path), number, error);
+            Err(stop(output, out, failure))
+        }
     }
 }
 
@@ -173,12 +214,12 @@ fn answer_together<F: Read + Drop>(
     out: &mut Vec<u8>,
 ) -> (u64, bool)
     ensures answered { IfSome (reader_remaining F.remaining reader.old) (λ bytes.
-        TakesTogether asked.now.style asked.now.end question.now bytes
+        TakesTogether asked.now.style asked.now.format question.now bytes
         (reader_remaining F.remaining reader.new) result.0 out.old.items out.new.items result.1) }
     ensures few { result.0 ≤ 256 }
 {
     let bytes = reader.buffer();
-    let together = answer_front(alloc, question, bytes, asked.end, asked.style, next, out);
+    let together = answer_front(alloc, question, bytes, asked.format, asked.style, next, out);
     reader.consume(together.len);
     (together.count as u64, together.is_found)
 }
@@ -201,13 +242,13 @@ fn answer_each<F: Read + Drop, W: Write>(
     ensures answered { IfOk result (λ found.
         IfSome (reader_remaining F.remaining reader.old) (λ bytes.
         IfSome (W.contents output.old) (λ start. length bytes < 2 ^ 63 → (written : List ℕ)
-        × AnswersAll asked.now.style question.old (lines_of asked.now.end bytes)
+        × AnswersAll asked.now.style question.old (lines_of asked.now.format bytes)
         (answered question.new written found)
         × (W.contents output.new ≡ Some (start ++ written))))) }
     ensures stopped { IfErr result (λ e.
         IfSome (reader_remaining F.remaining reader.old) (λ bytes.
         IfSome (W.contents output.old) (λ start. IsStoppedAt asked.now.style question.old
-        (lines_of asked.now.end bytes) start (W.contents output.new) e))) }
+        (lines_of asked.now.format bytes) start (W.contents output.new) e))) }
 {
     let mut is_found = false;
     let mut line = Vec::new(alloc);
@@ -218,13 +259,13 @@ fn answer_each<F: Read + Drop, W: Write>(
         let (count, found) = answer_together(alloc, question, reader, asked, &mut next, &mut out);
         number += count;
         is_found |= found;
-        let is_time = is_time(reader, asked.end, out.len());
+        let is_time = is_time(reader, asked.format.end, out.len());
         put_if(is_time, output, &mut out)?;
-        if !read_line(alloc, reader, asked, &mut line)? {
+        if !read_line(alloc, reader, asked, &mut line, &mut out, output)? {
             put(output, &mut out)?;
             return Ok(is_found);
         }
-        let line = without_end(&line, asked.end);
+        let line = read_text(&line, asked.format);
         match answer_line(
             alloc, question, line, number, asked, &mut next, &mut out, output,
         ) {
@@ -241,11 +282,15 @@ fn answer_each<F: Read + Drop, W: Write>(
 fn answer_lines<F: Read + Drop, W: Write>(
     alloc: Global,
     question: &mut Question,
-    input: F,
+    mut input: F,
     asked: &Asked<'_>,
     output: &mut W,
 ) -> Result<bool, Failure> {
-    match BufReader::new(alloc, input) {
+    let head = match read_unmarked(alloc, &mut input, asked.format) {
+        Ok(head) => head,
+        Err(error) => return Err(input_failure(alloc, shown(asked.path), error)),
+    };
+    match BufReader::new(alloc, head.as_slice().chain(input)) {
         Ok(mut reader) => answer_each(alloc, question, &mut reader, asked, output),
         Err(error) => Err(input_failure(alloc, shown(asked.path), error)),
     }
@@ -261,11 +306,11 @@ fn style(matches: &ArgMatches<'_>, end: u8) -> Style {
 }
 
 // How the command line says that lines are read and answered.
-fn form_of<'p>(matches: &ArgMatches<'p>, end: u8) -> Asked<'p> {
+fn form_of<'p>(matches: &ArgMatches<'p>, format: LineFormat) -> Asked<'p> {
     Asked {
         path: matches.get_str("lines").unwrap_or("-"),
-        end,
-        style: style(matches, end),
+        format,
+        style: style(matches, format.end),
     }
 }
 
@@ -320,7 +365,7 @@ fn answer_all<R: Files, I: Read + Drop, W: Write, E: Write + Drop>(
     output: &mut W,
 ) -> Result<bool, Failure> {
     let mut question = question(inputs, name, matches)?;
-    let asked = form_of(matches, inputs.end);
+    let asked = form_of(matches, inputs.format);
     let found = answer_asked(inputs, &mut question, &asked, output);
     // by a call, which is proved once for all that a question holds
     drop(question);
@@ -334,10 +379,10 @@ fn obey<R: Files, I: Read + Drop, W: Write, E: Write + Drop>(
     matches: &ArgMatches<'_>,
     output: &mut W,
 ) -> Result<bool, Failure> {
-    inputs.end = line_end(matches);
+    inputs.format = line_format(matches);
     match name {
-        "pack" => pack_file(inputs, matches)?,
-        "combine" => combine_files(inputs, matches)?,
+        "pack" => pack_file(inputs, matches, output)?,
+        "combine" => combine_files(inputs, matches, output)?,
         "stats" => return show_measures(inputs, matches, output),
         "draw" => return show_tree(inputs, matches, output),
         _ => return answer_all(inputs, name, matches, output),
@@ -379,6 +424,15 @@ fn complain<E: Write>(errors: &mut E, failure: &Failure) -> u8 {
     2
 }
 
+// Returns the status to end with if the output is not written, and writes why, unless nobody reads
+// it any more.
+fn end_unwritten<E: Write>(errors: &mut E, error: io::Error) -> u8 {
+    if error.kind() == ErrorKind::BrokenPipe {
+        return CLOSED;
+    }
+    complain(errors, &Failure::Output(error))
+}
+
 // Writes the help or the version, and returns the status to end with.
 fn show_help<W: Write, E: Write>(output: &mut W, errors: &mut E, help: &clap::Error) -> u8 {
     let mut written = write!(output, "{help}");
@@ -387,7 +441,7 @@ fn show_help<W: Write, E: Write>(output: &mut W, errors: &mut E, help: &clap::Er
     }
     match written {
         Ok(()) => 0,
-        Err(error) => complain(errors, &Failure::Output(error)),
+        Err(error) => end_unwritten(errors, error),
     }
 }
 
@@ -418,11 +472,15 @@ pub fn serve<R: Files, I: Read + Drop, W: Write + Drop, E: Write + Drop>(
         alloc,
         standard: Some(input),
         progress,
-        end: b'\n',
+        format: LineFormat {
+            end: b'\n',
+            keeps_cr: false,
+        },
     };
     match run(inputs, words, &mut output) {
         Ok(is_found) => status(is_found),
         Err(Failure::Usage(usage)) => show_usage(&mut output, &mut errors, &usage),
+        Err(Failure::Output(error)) => end_unwritten(&mut errors, error),
         Err(failure) => complain(&mut errors, &failure),
     }
 }

@@ -4,17 +4,17 @@ ghost use Rattle.std.specs.Prelude.{◌≡◌, ◌≢◌, ◌↔◌, ℕ, List, 
 ghost use Rattle.std.specs.FinMap as map;
 ghost use Rattle.std.specs.Io.KnownBytes.{Appends};
 ghost use Rattle.patricia_tree.specs.Prefixes.{under};
-ghost use Rattle.patricia_tree.specs.Siblings.{keys_of};
 ghost use Rattle.prefixes_core.specs.Drawings.{Draws};
 ghost use Rattle.prefixes_core.specs.Measures.{TellsMeasures};
 
 use crate::dotted::begins_some;
 use crate::drawing::{Form, draw, push_drawing};
-use crate::failure::{Failure, pack_failure, put};
+use crate::failure::{Failure, pack_failure};
 use crate::inputs::{Inputs, shown};
 use crate::listing::Names;
 use crate::measuring::{measure, push_measures};
 use crate::options::path;
+use crate::output::put;
 use clap::ArgMatches;
 use std::alloc::Global;
 use std::io::{Read, Write};
@@ -50,7 +50,7 @@ pub fn show_measures<R: Files, I: Read + Drop, E: Write + Drop, W: Write>(
     output: &mut W,
 ) -> Result<bool, Failure> {
     let list = path(matches, "LIST");
-    let names = inputs.names(list)?;
+    let names = inputs.packable_names(list)?;
     let is_found = put_measures(inputs.alloc, list, &names, matches.get_flag("json"), output);
     drop(names);
     is_found
@@ -78,7 +78,7 @@ fn put_tree<W: Write>(
     output: &mut W,
 ) -> Result<bool, Failure>
     ensures written { OnOk result ((text : List ℕ)
-        × Draws form (keys_of (under prefix.now (map.entries names))) text
+        × Draws form (under prefix.now (map.entries names)) text
         × Appends (W.contents output.old) (W.contents output.new) text) }
     ensures found { IfOk result (λ found.
         IsTrue found ↔ (under prefix.now (map.entries names) ≢ [])) }
@@ -101,7 +101,12 @@ pub fn show_tree<R: Files, I: Read + Drop, E: Write + Drop, W: Write>(
     output: &mut W,
 ) -> Result<bool, Failure> {
     let list = path(matches, "LIST");
-    let names = inputs.names(list)?;
     let prefix = path(matches, "PREFIX");
+    // of names that begin with a prefix alone are tree bytes made
+    let names = if prefix.is_empty() {
+        inputs.packable_names(list)?
+    } else {
+        inputs.names(list)?
+    };
     put_tree(inputs.alloc, list, names, prefix, form(matches), output)
 }

@@ -1,4 +1,4 @@
--- Why the program does not answer to the end.
+-- Why the program ends early, and what is written then.
 use Rattle.std.specs.Prelude.{◌≡◌, ◌++◌, ℕ, List, Option, Some, IfSome}
 use Rattle.std.specs.Io.KnownBytes.{Appends}
 use Rattle.prefixes_core.specs.Answers.{IsAnswerFault}
@@ -13,26 +13,35 @@ IsLineFailure number error (Failures.Line path n e) = (n ≡ number) × (e ≡ e
 IsLineFailure number error Failures.Memory = Unit {0}
 IsLineFailure number error _ = ⊥
 
+-- the lines are not read, or memory runs out
+abbrev pub IsInputFailure : Failure → Type 0
+IsInputFailure (Failures.Input path e) = Unit {0}
+IsInputFailure Failures.Memory = Unit {0}
+IsInputFailure _ = ⊥
+
 -- the output is not written
 abbrev pub IsOutputFailure : Failure → Type 0
 IsOutputFailure (Failures.Output e) = Unit {0}
 IsOutputFailure _ = ⊥
 
--- a line is refused, and what waits is written before, unless that fails
-abbrev pub IsStop : Question → List ℕ → ℕ → List ℕ → Option (List ℕ) → Option (List ℕ) → Failure
-    → Type 0
-IsStop question line number waiting old new (Failures.Line path n error) =
-    (n ≡ number) × IsAnswerFault question line error × Appends old new waiting
-IsStop question line number waiting old new Failures.Memory = Appends old new waiting
-IsStop question line number waiting old new (Failures.Output e) = Unit {0}
-IsStop question line number waiting old new _ = ⊥
+-- a writer, where what it has is known, gets the first of some bytes
+abbrev pub GetsFirst : Option (List ℕ) → Option (List ℕ) → List ℕ → Type 0
+GetsFirst old new bytes =
+    IfSome old (λ had. (part : List ℕ) × (rest : List ℕ) × (bytes ≡ part ++ rest)
+    × (new ≡ Some (had ++ part)))
 
--- no line is refused
-abbrev pub IsNoLine : Failure → Type 0
-IsNoLine (Failures.Line path n error) = ⊥
-IsNoLine _ = Unit {0}
+-- what waits is written before the program ends, unless the output fails: then the first of it
+abbrev pub IsWritten : Option (List ℕ) → Option (List ℕ) → List ℕ → Failure → Type 0
+IsWritten old new waiting (Failures.Output e) = GetsFirst old new waiting
+IsWritten old new waiting _ = Appends old new waiting
 
--- what a writer has and what waits are together what they were, where it is known
+-- what a failure says of a line, if it names one
+abbrev pub IsNamed : Question → List ℕ → ℕ → Failure → Type 0
+IsNamed question line number (Failures.Line path n error) =
+    (n ≡ number) × IsAnswerFault question line error
+IsNamed question line number _ = Unit {0}
+
+-- what waited is what a writer got, where what it has is known, and what still waits
 abbrev pub IsKept : Option (List ℕ) → Option (List ℕ) → List ℕ → List ℕ → Type 0
 IsKept old new waiting left =
-    IfSome old (λ xs. (ys : List ℕ) × (new ≡ Some ys) × (ys ++ left ≡ xs ++ waiting))
+    IfSome old (λ had. (part : List ℕ) × (new ≡ Some (had ++ part)) × (waiting ≡ part ++ left))

@@ -4,14 +4,16 @@ use Rattle.prefixes_core.specs.Lists.{lines_of}
 use Rattle.prefixes_core.specs.Turns.{AnswersAll, answered}
 use Rattle.prefixes_core.specs.declared.answering.Question.{Question}
 use Rattle.prefixes_core.specs.declared.answering.Style.{Style}
+use Rattle.prefixes_core.specs.declared.lines.LineFormat.{LineFormat}
 use Rattle.prefixes_core.specs.declared.answering.together.Together.{Together}
 
 -- what is before the rest of some bytes are these lines, whatever comes behind
-pub record CutsLines (end : ℕ) (bytes : List ℕ) (lines : List (List ℕ)) (rest : List ℕ)
+pub record CutsLines (format : LineFormat) (bytes : List ℕ) (lines : List (List ℕ)) (rest : List ℕ)
     : Type 0 where
   pub front : List ℕ
   pub joined : bytes ≡ front ++ rest
-  pub first : (more : List ℕ) → lines_of end (bytes ++ more) ≡ lines ++ lines_of end (rest ++ more)
+  pub first : (more : List ℕ)
+      → lines_of format (bytes ++ more) ≡ lines ++ lines_of format (rest ++ more)
 
 -- lines are answered behind a text, and what is asked stays
 pub record AnswersTogether (style : Style) (question : Question) (lines : List (List ℕ))
@@ -21,21 +23,22 @@ pub record AnswersTogether (style : Style) (question : Question) (lines : List (
   pub answers : AnswersAll style question lines (answered question written found)
 
 -- the first lines of some bytes are answered together: how many, which take so many of the bytes
-pub record AnswersFront (style : Style) (end : ℕ) (question : Question) (bytes : List ℕ)
+pub record AnswersFront (style : Style) (format : LineFormat) (question : Question) (bytes : List ℕ)
     (together : Together) (old new : List ℕ) : Type 0 where
   pub lines : List (List ℕ)
   pub rest : List ℕ
-  pub cuts : CutsLines end bytes lines rest
+  pub cuts : CutsLines format bytes lines rest
   pub counted : length lines ≡ together.count
   pub sized : together.len + length rest ≡ length bytes
   pub answers : AnswersTogether style question lines old new together.is_found
 
 -- so many lines are taken off the front of the bytes that a reader had left, and answered
-pub record TakesTogether (style : Style) (end : ℕ) (question : Question) (bytes : List ℕ)
-    (left : Option (List ℕ)) (count : ℕ) (old new : List ℕ) (found : Bool) : Type 0 where
+pub record TakesTogether (style : Style) (format : LineFormat) (question : Question)
+    (bytes : List ℕ) (left : Option (List ℕ)) (count : ℕ) (old new : List ℕ) (found : Bool)
+    : Type 0 where
   pub lines : List (List ℕ)
   pub rest : List ℕ
   pub left_is : left ≡ Some rest
-  pub first : lines_of end bytes ≡ lines ++ lines_of end rest
+  pub first : lines_of format bytes ≡ lines ++ lines_of format rest
   pub counted : length lines ≡ count
   pub answers : AnswersTogether style question lines old new found

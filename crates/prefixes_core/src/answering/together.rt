@@ -14,7 +14,7 @@ use super::writing::{push_blocked, push_pieces, push_route};
 use super::{Question, Style};
 use crate::blocking::{BlockList, cut_keys, joined_keys, write_name};
 use crate::cutting::segment_all;
-use crate::lines::{Line, cut_lines};
+use crate::lines::{Line, LineFormat, cut_lines};
 use crate::listing::Names;
 use crate::value::Payload;
 use patricia_tree::router::Router;
@@ -192,17 +192,17 @@ fn try_front<'b, A: AnswersLines<'b>>(
     alloc: Global,
     asked: &A,
     bytes: &'b [u8],
-    end: u8,
+    format: LineFormat,
     style: Style,
     next: &mut Vec<u8>,
     out: &mut Vec<u8>,
 ) -> Result<Together, AllocError>
-    ensures answered { IfOk result (λ together. AnswersFront style end (A.question asked.now)
+    ensures answered { IfOk result (λ together. AnswersFront style format (A.question asked.now)
         bytes.now together out.old.items out.new.items) }
     ensures few { IfOk result (λ together. together.count ≤ 256) }
     ensures kept { OnErr result (out.new.items ≡ out.old.items) }
 {
-    let (lines, rest) = cut_lines::<A::Line>(alloc, bytes, end)?;
+    let (lines, rest) = cut_lines::<A::Line>(alloc, bytes, format)?;
     next.clear();
     let is_found = asked.answer_lines(alloc, &lines, style, next)?;
     out.extend_from_slice(next)?;
@@ -218,16 +218,16 @@ fn front<'b, A: AnswersLines<'b>>(
     alloc: Global,
     asked: &A,
     bytes: &'b [u8],
-    end: u8,
+    format: LineFormat,
     style: Style,
     next: &mut Vec<u8>,
     out: &mut Vec<u8>,
 ) -> Together
-    ensures answered { AnswersFront style end (A.question asked.now) bytes.now result
+    ensures answered { AnswersFront style format (A.question asked.now) bytes.now result
         out.old.items out.new.items }
     ensures few { result.count ≤ 256 }
 {
-    match try_front(alloc, asked, bytes, end, style, next, out) {
+    match try_front(alloc, asked, bytes, format, style, next, out) {
         Ok(together) => together,
         Err(_) => NONE,
     }
@@ -247,19 +247,19 @@ pub(crate) fn answer_front(
     alloc: Global,
     question: &Question,
     bytes: &[u8],
-    end: u8,
+    format: LineFormat,
     style: Style,
     next: &mut Vec<u8>,
     out: &mut Vec<u8>,
 ) -> Together
-    ensures answered { AnswersFront style end question.now bytes.now result
+    ensures answered { AnswersFront style format question.now bytes.now result
         out.old.items out.new.items }
     ensures few { result.count ≤ 256 }
 {
     match question {
-        Question::Route(routes) => front(alloc, routes, bytes, end, style, next, out),
-        Question::Block(list) => front(alloc, list, bytes, end, style, next, out),
-        Question::Segment(words) => front(alloc, words, bytes, end, style, next, out),
+        Question::Route(routes) => front(alloc, routes, bytes, format, style, next, out),
+        Question::Block(list) => front(alloc, list, bytes, format, style, next, out),
+        Question::Segment(words) => front(alloc, words, bytes, format, style, next, out),
         _ => NONE,
     }
 }

@@ -7,13 +7,16 @@ ghost use Rattle.std.specs.List.{flat_map, join_by};
 ghost use Rattle.std.specs.Option.{option_map};
 ghost use Rattle.prefixes_core.specs.Answers.{fields_line, count_line, indent, value_line};
 ghost use Rattle.prefixes_core.specs.Answers.{entry_line, route_text, complete_text, near_text};
-ghost use Rattle.prefixes_core.specs.Answers.{block_text, tree_text, pieces_text};
+ghost use Rattle.prefixes_core.specs.Answers.{block_text, first_text, tree_text, pieces_text};
+ghost use Rattle.prefixes_core.specs.Answers.{network_text};
 
 use super::Style;
 use crate::completing::Completions;
 use crate::nearing::{NearName, NearNames};
+use crate::networks::Network;
 use crate::objects::{
-    push_block_object, push_names_object, push_pieces_object, push_route_object, push_tree_object,
+    push_block_object, push_first_object, push_names_object, push_network_object,
+    push_pieces_object, push_route_object, push_tree_object,
 };
 use crate::value::Payload;
 use itoa::Buffer;
@@ -82,6 +85,28 @@ pub(super) fn push_route(
     }
 }
 
+// Writes which network an address is in, and its target, if it is in one.
+pub(super) fn push_network(
+    alloc: Global,
+    line: &[u8],
+    found: Option<&Network>,
+    style: Style,
+    out: &mut Vec<u8>,
+) -> Result<(), AllocError>
+    ensures { OnOk result (out.new.items ≡ out.old.items ++ network_text style line.now
+        (option_map (λ network. network.now) found.entry)) }
+{
+    match (style, found) {
+        (Style::Lines(end), Some(network)) => push_fields(
+            &[network.text.as_bytes(), network.target.as_bytes()],
+            end,
+            out,
+        ),
+        (Style::Lines(end), None) => push_fields(&["-"], end, out),
+        (Style::Json, _) => push_network_object(alloc, line, found, out),
+    }
+}
+
 // Writes names that were found, each on a line behind a tab.
 fn push_names(found: &[(String, &())], end: u8, out: &mut Vec<u8>) -> Result<(), AllocError>
     ensures { OnOk result (out.new.items ≡ out.old.items
@@ -112,6 +137,25 @@ pub(super) fn push_completed(
             push_names(&found.first, end, out)
         }
         Style::Json => push_names_object(alloc, line, found.count, &found.first, out),
+    }
+}
+
+pub(super) fn push_first(
+    alloc: Global,
+    found: &[(String, &())],
+    line: &str,
+    style: Style,
+    out: &mut Vec<u8>,
+) -> Result<(), AllocError>
+    ensures { OnOk result (out.new.items ≡ out.old.items ++ first_text style line.now
+        (list_map (λ name. (string_bytes name.0, name.1.now)) found.now)) }
+{
+    match style {
+        Style::Lines(end) => {
+            push_fields(&[line], end, out)?;
+            push_names(found, end, out)
+        }
+        Style::Json => push_first_object(alloc, line, found, out),
     }
 }
 

@@ -1,25 +1,33 @@
-use Rattle.std.proofs.Common.{arith}
+use Rattle.std.proofs.Common.{arith, ◌∙◌, ℕ, List}
+use Rattle.std.specs.Prelude.{map as list_map}
 use Rattle.std.specs.FinMap as map
-use Rattle.prefixes_core.proofs.CompletionLemmas.{all_completed, at_error, completed, some_left}
+use Rattle.std.proofs.lemmas.List.{length-map}
+use Rattle.patricia_tree.specs.Prefixes.{under}
+use Rattle.prefixes_core.proofs.CompletionLemmas.{all_counted}
 use Rattle.prefixes_core.proofs.completing.complete.Goals as goal
-
-pub returns-in_default-clause-ok : goal.returns-in_default-clause-ok
-returns-in_default-clause-ok g c =
-    all_completed _ (map.entries c.args.entries.now) _ c.args.most c.loop.first.items c.loop.left _
-    c.loop.invariant.joined c.in_default.ensures.steps.0
-    (omega (arith, c.len-count.ensures, c.loop.first.ok.0))
-    (omega (arith, c.loop.invariant.counted, c.loop.auto.counter-end))
+use Rattle.prefixes_core.proofs.completing.complete.Goals.{then-len-most}
+use Rattle.prefixes_core.proofs.completing.complete.Goals.{else-len-most+in_ok-count}
 
 pub returns-clause-ok : goal.returns-clause-ok
 returns-clause-ok g c =
-    let end = c.loop.auto.counter-end in
-    let all = c.loop.invariant.counted in
-    completed _ (map.entries c.args.entries.now) _ c.args.most c.loop.first.items c.loop.left _
-    c.loop.invariant.joined c.in_ok-count.ensures.count (omega (arith, end, all))
-    (λ less. absurd (omega (arith, end, all, less, c.loop-test.false)))
-
-pub returns-in_err-push-clause-err : goal.returns-in_err-push-clause-err
-returns-in_err-push-clause-err g c =
-    at_error c.from_residual-in_err-push.result
-    (some_left _ (map.entries c.args.entries.now) _ c.loop.first.items c.loop.left
-    c.next.new.self c.in-Some.entry c.in-Some.ensures.steps c.loop.invariant.joined)
+    let items = c.in_ok-first.first.items in
+    let size = length-map {B = List ℕ × g.row.V.Denot} items (λ found. (g.Q.Owned.Bytes.key found.0, found.1.now)) in
+    let held = c.in_ok-first.first.ok.0 in
+    record {
+      first_is = c.in_ok-first.ensures.ok;
+      count_is = elim c.if-len-most.branch [
+        | then-len-most w ↦ omega (
+          arith,
+          w.count-is,
+          w.len-count.ensures,
+          size,
+          held,
+          all_counted c.args.most
+              (list_map (λ found. (g.Q.Owned.Bytes.key found.0, found.1.now)) items)
+              (under (g.Q.BorrowedBytes.key c.args.prefix) (map.entries c.args.entries.now))
+              c.in_ok-first.ensures.ok
+              (omega (arith, size, held, c.len.ensures, w.if-len-most.true)),
+        )
+        | else-len-most+in_ok-count w ↦ w.count-is ∙ w.in_ok-count.ensures.count
+      ];
+    }

@@ -13,6 +13,6 @@ returns-clause-too_deep g c = λ is.
 
 pub returns-clause-ok : goal.returns-clause-ok
 returns-clause-ok g c =
-    subst (λ e. IfOk c.nodes_for.result (λ nodes. AreNodes (keys_of e)
+    subst (λ e. IfOk c.nodes_for.result (λ nodes. AreNodes e
     (list_map (λ node. (node.level, (node.label, node.is_name))) nodes.items)))
     c.in_ok-names.ensures.taken c.nodes_for.ensures.ok

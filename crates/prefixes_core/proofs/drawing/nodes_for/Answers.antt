@@ -1,4 +1,4 @@
-use Rattle.std.proofs.Common.{ap, refl}
+use Rattle.std.proofs.Common.{ap}
 use Rattle.std.specs.Prelude.{Err}
 use Rattle.prefixes_core.proofs.RecordLemmas.{tree_read}
 use Rattle.prefixes_core.proofs.drawing.nodes_for.Goals as goal
@@ -9,5 +9,5 @@ returns-in-Err-TooDeep-clause-too_deep g c = λ is.
 
 pub returns-clause-ok : goal.returns-clause-ok
 returns-clause-ok g c =
-    tree_read c.in-Ok.tree.items c.deref.result.now _ c.deref.ensures.value c.in-Ok.ensures.ok _ _
-    refl c.in_ok-nodes_of.ensures
+    tree_read c.in-Ok.tree.items c.deref.result.now _ c.deref.ensures.value c.in-Ok.ensures.ok _
+    c.in_ok-nodes_of.ensures

@@ -7,7 +7,7 @@ pub loop-init : goal.loop-init
 loop-init g c =
     let content = g.L.Line.content in
     record {
-      cut = none_cut content c.args.end c.args.bytes.now c.new-lines.result.items
+      cut = none_cut content c.args.format c.args.bytes.now c.new-lines.result.items
           c.new-lines.ensures.items;
       right = none_wrong content g.L.Line.IsRight c.new-lines.result.items
           c.new-lines.ensures.items;
@@ -22,7 +22,7 @@ loop-preserved g c =
     let line = c.in-Some.cut.0 in
     let is = c.in_ok-push.ensures.items in
     record {
-      cut = cut_more content c.args.end c.args.bytes.now c.loop.rest.now c.in-Some.cut.1.now lines
+      cut = cut_more content c.args.format c.args.bytes.now c.loop.rest.now c.in-Some.cut.1.now lines
           more line is c.in-Some.ensures.cut c.loop.invariant.cut;
       right = right_more content g.L.Line.IsRight lines more line is c.in-Some.ensures.right
           c.loop.invariant.right;

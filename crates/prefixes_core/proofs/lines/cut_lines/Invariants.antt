@@ -7,7 +7,7 @@ use Rattle.prefixes_core.proofs.lines.cut_lines.Given as goal
 abbrev pub invariant-loop : goal.invariant-loop
 invariant-loop g l =
     record {
-      cut : CutsLines l.end l.bytes (list_map g.L.Line.content l.lines.items) l.rest;
+      cut : CutsLines l.format l.bytes (list_map g.L.Line.content l.lines.items) l.rest;
       right : All g.L.Line.IsRight (list_map g.L.Line.content l.lines.items);
       few : length l.lines.items ≤ l.counter;
     }

@@ -6,7 +6,7 @@ use Rattle.prefixes_core.proofs.program.answer_each.Given as goal
 -- the lines so far are answered, and the reader has the others
 abbrev pub invariant-loop-number : goal.invariant-loop-number
 invariant-loop-number g l =
-    IsAnsweredTo l.asked.style l.asked.end l.fn.question
+    IsAnsweredTo l.asked.style l.asked.format l.fn.question
     (reader_remaining g.F.Read.remaining l.fn.reader) (g.W.Write.contents l.fn.output)
     (reader_remaining g.F.Read.remaining l.reader) (g.W.Write.contents l.output) l.question
     l.is_found l.out.items l.number

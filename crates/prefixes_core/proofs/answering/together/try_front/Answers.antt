@@ -26,7 +26,7 @@ returns-clause-answered g c =
     (arith, c.in_ok-lines.lines.ok.0, c.len.ensures) in
     let behind : new ≡ old ++ c.deref-2.result.now = c.in_ok-extend_from_slice.ensures.items in
     let put : new ≡ old ++ next = subst (λ l. new ≡ old ++ l) c.deref-2.ensures.value behind in
-    front_answered content c.args.style c.args.end question c.args.bytes.now rest none next old
+    front_answered content c.args.style c.args.format question c.args.bytes.now rest none next old
     new lines _ c.in_ok-lines.ensures.cut counted refl c.clear.ensures.items
     (subst (λ l. AnswersTogether c.args.style question (list_map content l) none next
     c.in_ok-is_found.is_found) c.deref.ensures.value c.in_ok-is_found.ensures) put

@@ -2,7 +2,7 @@ use Rattle.std.proofs.Common.{◌≡◌, ◌++◌, length}
 use Rattle.std.specs.Prelude.{map as list_map}
 use Rattle.std.specs.FinMap as map
 use Rattle.patricia_tree.specs.Prefixes.{under}
-use Rattle.prefixes_core.proofs.completing.complete.Given as goal
+use Rattle.prefixes_core.proofs.completing.first_completions.Given as goal
 
 -- the entries so far and those that are left are all of the prefix
 abbrev pub invariant-loop : goal.invariant-loop
