@@ -215,7 +215,7 @@ class Deep(Case):
         words = [self.program('prefixes', build), command, 'list', *self.COMMANDS[command]]
         for more in 0, 1:
             with open(os.path.join(room, 'list'), 'wb') as file:
-                file.write(b'ab\n' + b'x' * (self.MOST + more) + b'\nxy\n')
+                file.write(b'ab\n' + b'x' * (self.MOST + more) + b'\nz\n')
             ran = run(words, cwd=room)
             self.assertEqual((ran.returncode, ran.stderr), (2, self.SAID) if more else (0, b''))
         # what does not begin with a prefix is no part of a drawing
@@ -289,14 +289,14 @@ class Waiting(Case):
         self.assertEqual(rest, last)
         self.assertEqual(process.returncode, int(command == 'block'))
 
-    @each(*pairs(['complete names --lines', 'near', 'pack', 'combine union']))
+    @each(*pairs(['complete names --lines', 'near', 'pack -', 'combine union names']))
     def interrupt(self, command, build):
         """The program waits for lines of a list or of an input that does not end."""
         words = [self.program('prefixes', build), *command.split(), '-']
         lists = os.path.join(ROOT, 'tests', 'prefixes', 'lists')
         with subprocess.Popen(words, stdin=subprocess.PIPE, stdout=subprocess.PIPE, cwd=lists) as process:
             os.write(process.stdin.fileno(), b'foo\n' * 1000)
-            while not is_read(process.stdin.fileno()):
+            while not is_read(process.stdin.fileno()) and process.poll() is None:
                 time.sleep(0.001)
             process.send_signal(signal.SIGINT)
             self.assertEqual(process.wait(MOST_SECONDS), -signal.SIGINT)
