@@ -1,6 +1,6 @@
 //! peer route|complete|block|segment|networks LIST: what `prefixes` does with a list of lines, over std's ordered map, and
 //! for `networks`, which is `route --cidr`, over a hash map of std for each length. For `complete` 10 entries are shown. It
-//! stands beside `prefixes` in tests/prefixes/bench.sh, and writes the same.
+//! is timed beside `prefixes` by tests/prefixes/bench.sh, and writes the same.
 
 use std::collections::{BTreeMap, HashMap};
 use std::io::{self, BufRead, BufReader, BufWriter, Write};

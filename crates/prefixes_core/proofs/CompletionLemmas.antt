@@ -29,20 +29,20 @@ first_of most first left whole joined few all = elim (cases_lt (length first) mo
 module _ {A V : Type 0} (f : A → List ℕ × V) (entries : List (List ℕ × V)) (prefix : List ℕ)
     (most : ℕ) (first : List A) (left : List (List ℕ × V))
     (joined : map f first ++ left ≡ under prefix entries) where
-  -- the first entries of a prefix, where no other is left
+  -- the first entries of a prefix, if no other is left
   pub all_first : left ≡ [] → length first ≤ most → map f first ≡ take most (under prefix entries)
   all_first none few =
       first_of most (map f first) left _ joined (omega (arith, length-map first f, few))
       (λ less. ap length none)
 
-  -- and where they are as many as are taken
+  -- and if their number is the one that is taken
   pub first_full : length first ≡ most → map f first ≡ take most (under prefix entries)
   first_full full =
       let size = length-map first f in
       first_of most (map f first) left _ joined (omega (arith, size, full))
       (λ less. absurd (omega (arith, size, full, less)))
 
--- where fewer are there than are taken, they are all
+-- if there are fewer than are taken, they are all
 pub all_counted : {R : Type 0} (most : ℕ) (first whole : List R) → first ≡ take most whole
     → length first < most → length first ≡ length whole
 all_counted most first whole is less =

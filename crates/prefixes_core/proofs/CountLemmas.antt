@@ -6,11 +6,11 @@ use Rattle.std.specs.List.{fold}
 use Rattle.patricia_tree.specs.Cursors.{ReadCursorView, advanced, before_entries}
 
 module _ {V : Type 0} (f : ℕ → ℕ → ℕ) where
-  -- what the lengths of names are folded to
+  -- the fold of the lengths of names
   abbrev pub folded_len : ℕ → List (List ℕ × V) → ℕ
   folded_len first entries = fold (λ a e. f a (length e.0)) first entries
 
-  -- so many names are behind, and those that are left lead from what they are folded to on
+  -- a fold that has passed n names: folded on over those that are left, it is the fold of all
   pub record IsFolding (first : ℕ) (entries : List (List ℕ × V)) (c : ReadCursorView V) (folded n : ℕ)
       : Type 0 where
     pub fold_is : folded_len folded c.left ≡ folded_len first entries
@@ -43,7 +43,7 @@ module _ {V : Type 0} (f : ℕ → ℕ → ℕ) where
             size = omega (arith, is.size, ap length some_left, ap length behind, next);
           }
 
-  -- if none is left, it is what all are folded to
+  -- if none is left, it is the fold of all
   pub all_folded : (first : ℕ) (entries : List (List ℕ × V)) (c : ReadCursorView V) (folded n : ℕ)
       → n ≡ length entries → IsFolding first entries c folded n → folded ≡ folded_len first entries
   all_folded first entries c folded n end is = by c.left refl

@@ -84,7 +84,7 @@ cut_found format at name found = record {
     left (inl a) = inl a
     left (inr b) = inr (inl b)
 
--- and where none is found, only a carriage return at the end is no part of its line
+-- and if none is found, only a carriage return at the end is no part of its line
 only_return : (format : LineFormat) (name : List ℕ)
     → Nowhere (Passes (is_byte2 9 format.end) name) 0 (length name) → (at : ℕ)
     → IsCutAt format name at → IsReturn format name at

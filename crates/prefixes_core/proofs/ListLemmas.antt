@@ -88,7 +88,7 @@ value_none line none =
     sym (ap (λ n. drop (n + 1) line) (no_tab line none)
     ∙ drop_all (length line + 1) line (omega arith))
 
--- what is said of a name that is not taken is so where fewer names are taken
+-- a fault of a name is one, too, if fewer names are taken
 pub entry_fault_more : (IsName Fewer : List ℕ → Type 0) (name : List ℕ) (e : EntryError)
     → (Fewer name → IsName name) → IsEntryFault IsName name e → IsEntryFault Fewer name e
 entry_fault_more IsName Fewer name (Refusals.Name fault) taken is = ((λ is_one. is.0 (taken is_one)), is.1)

@@ -9,7 +9,7 @@ use Rattle.prefixes_core.specs.Networks.{address_part, length_part, width}
 use Rattle.prefixes_core.specs.Networks.{FixesBits, IsLengthText, IsNetworkText, IsNetworkFault}
 use Rattle.prefixes_core.specs.declared.networks.NetworkError.TheVariants as Faults
 
--- a name that has a slash is not what stands before it
+-- a name that has a slash differs from its address part
 pub has_slash : (name : List ℕ) → position_or_len (λ b. b == 47) name < length name
     → address_part name ≢ name
 has_slash name less whole =

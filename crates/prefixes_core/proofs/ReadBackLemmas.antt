@@ -24,7 +24,7 @@ cut_off end (b ∷ line) rest free =
     cond-false (b == end) _ _ (ne_eqb b end (free 0 (omega arith)))
     ∙ ap (onto_first b) (cut_off end line rest (λ i inside. free (suc i) (omega (arith, inside))))
 
--- what the line of a name has before its end
+-- the line of a name without its end
 abbrev body : List ℕ → List ℕ
 body [] = 9 ∷ []
 body (b ∷ name) = b ∷ name
@@ -135,16 +135,16 @@ module _ (format : LineFormat) where
   read_back names other whole =
       subst (λ lines. AreReadAs lines names) (sym (all_read names other whole)) (bodies names whole)
 
-  -- no line is passed over where none is empty
+  -- no line is passed over if none is empty
   all_filled : (lines : List (List ℕ)) → All (λ line. line ≢ []) lines → filter is_filled lines ≡ lines
   all_filled [] filled = refl
   all_filled ([] ∷ lines) filled = absurd (All-head (λ line. line ≢ []) [] lines filled refl)
   all_filled ((b ∷ line) ∷ lines) filled =
       ap (λ l. (b ∷ line) ∷ l) (all_filled lines (All-tail (λ line. line ≢ []) (b ∷ line) lines filled))
 
-  -- bytes behind an empty line
-  behind_empty : (bytes : List ℕ) → lines_of format (format.end ∷ bytes) ≡ [] ∷ lines_of format bytes
-  behind_empty bytes =
+  -- bytes after an empty line
+  after_empty : (bytes : List ℕ) → lines_of format (format.end ∷ bytes) ≡ [] ∷ lines_of format bytes
+  after_empty bytes =
       ap (list_map (line_text format)) (cond-true (format.end == format.end) _ _ (eq-eqb format.end format.end refl))
       ∙ ap (λ l. l ∷ lines_of format bytes) (text_whole format [] (λ drops. refl))
 
@@ -163,4 +163,4 @@ module _ (format : LineFormat) where
       same (inl is) = ap (λ b. filter is_filled (lines_of format b)) is ∙ all_filled _ read.filled
       same (inr is) =
           ap (λ b. filter is_filled (lines_of format b)) is
-          ∙ ap (filter is_filled) (behind_empty bytes) ∙ all_filled _ read.filled
+          ∙ ap (filter is_filled) (after_empty bytes) ∙ all_filled _ read.filled

@@ -58,7 +58,7 @@ kept_same (Some had) mid new waiting left kept same =
     by None same = absurd same
     by (Some has) same = (kept.0, ap Some same, kept.2)
 
--- where nothing waits any more, all is written
+-- if nothing waits any more, all is written
 pub kept_whole : (old new : Option (List ℕ)) (waiting left : List ℕ)
     → IsKept old new waiting left → left ≡ [] → Appends old new waiting
 kept_whole None new waiting left kept none = tt
@@ -81,7 +81,7 @@ whole_part (Some had) None waiting more = absurd more
 whole_part (Some had) (Some has) waiting more =
     (waiting, [], sym (append-nil waiting), ap Some more)
 
--- where all that waits is written, nothing waits
+-- if all that waits is written, nothing waits
 pub kept_all : (old new : Option (List ℕ)) (waiting left : List ℕ) → Appends old new waiting
     → left ≡ [] → IsKept old new waiting left
 kept_all None new waiting left more none = tt

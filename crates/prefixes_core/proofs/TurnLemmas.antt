@@ -43,8 +43,8 @@ of_input (Failures.Line path n error) is = absurd is
 of_input _ is = tt
 
 module _ (style : Style) (format : LineFormat) (first : Question) where
-  -- how far the lines of some bytes are answered, where a writer had something before: what it got
-  -- since then and what waits are the answers so far
+  -- how far the lines of some bytes are answered: the bytes that a writer got since the start, and
+  -- those that wait, are the answers so far
   pub record AnsweredTo (bytes start : List ℕ) (left contents : Option (List ℕ))
       (question : Question) (found : Bool) (waiting : List ℕ) (number : ℕ) : Type 0 where
     pub done : List (List ℕ)

@@ -1,4 +1,4 @@
--- The lines that keep names, and what is read of them.
+-- The lines that keep names, and the names that are read of them.
 use Rattle.std.specs.Prelude.{◌≡◌, ◌≢◌, ◌⊎◌, ◌<◌, ◌+◌, ℕ, Bool, true, false, List, [], ◌∷◌, ◌++◌}
 use Rattle.std.specs.Prelude.{length, slice_index, map as list_map, string_bytes}
 use Rattle.std.specs.List.{All, concat, filter}
@@ -46,7 +46,7 @@ pub record AreReadAs (lines names : List (List ℕ)) : Type 0 where
   pub names_are : list_map name_of lines ≡ names
   pub no_values : All (λ line. value_of line ≡ []) lines
 
--- the lines of names, where each has one, are read as these names
+-- the lines of names are read as these names, if each has a line
 abbrev pub LinesReadBack : Type 0
 LinesReadBack =
     (format : LineFormat) (names : List (List ℕ)) → format.end ≢ 9 → All (HasLine format) names

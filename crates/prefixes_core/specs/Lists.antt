@@ -59,8 +59,8 @@ IsNameFault name (Names.Network fault) = IsNetworkFault name fault
 IsNameFault name Names.TooLong = most_packed < length name
 
 module _ (IsName : List ℕ → Type 0) where
-  -- a line is empty, or its name is UTF-8, is one that is taken, and does not take up all of the
-  -- line where values are needed
+  -- a line is empty, or its name is UTF-8, is one that is taken and, if values are needed, is not
+  -- the whole line
   abbrev pub IsListLine : Values → List ℕ → Type 0
   IsListLine values [] = Unit {0}
   IsListLine values (b ∷ line) =

@@ -35,10 +35,11 @@ width (Ip.V6 a) = 128
 abbrev pub network_key : IpAddr → ℕ → List ℕ
 network_key address count = take (1 + count) (address_key address)
 
--- what stands before the first byte 47, a slash, in the name of a network, and after it
+-- the address in the name of a network: all before its first slash (byte 47)
 abbrev pub address_part : List ℕ → List ℕ
 address_part name = before_first (λ b. b == 47) name
 
+-- its prefix length: all after that slash, or no byte if there is none
 abbrev pub length_part : List ℕ → List ℕ
 length_part name = after_first (λ b. b == 47) name
 
@@ -46,7 +47,7 @@ length_part name = after_first (λ b. b == 47) name
 abbrev pub IsLengthText : ℕ → List ℕ → ℕ → Type 0
 IsLengthText most text count = IsNumber 10 text count × (length text ≤ 3) × (count ≤ most)
 
--- how many bits of an address a name fixes: what its length says, or all where it has no slash
+-- the number of bits of an address that a name fixes: its prefix length, or all if it has no slash
 abbrev pub FixesBits : List ℕ → IpAddr → ℕ → Type 0
 FixesBits name address count =
     ((address_part name ≡ name) × (count ≡ width address))
@@ -64,7 +65,7 @@ pub record IsNetworkText (name key : List ℕ) : Type 0 where
 abbrev pub IsNetwork : List ℕ → Type 0
 IsNetwork name = (key : List ℕ) × IsNetworkText name key
 
--- what each error says of a name: it writes no address, or one that no right length follows
+-- the meaning of each error: the name writes no address, or one without a valid prefix length
 abbrev pub IsNetworkFault : List ℕ → NetworkError → Type 0
 IsNetworkFault name Faults.NoAddress =
     (address : IpAddr) → IsIpText (address_part name) address → ⊥

@@ -258,7 +258,7 @@ fn text(line: &[u8]) -> Result<&str, AnswerError>
 }
 
 impl Question {
-    // Answers a line that is a text, where lines are texts.
+    // Answers a line that is a text, if texts are asked about.
     fn answer_text(
         &mut self,
         alloc: Global,
@@ -290,7 +290,7 @@ impl Question {
     ///
     /// # Errors
     ///
-    /// The line is not UTF-8, which only a host need not be, or not an address where networks are
+    /// The line is not UTF-8, which only a host need not be; or not an address, if networks are
     /// asked about; or out of memory.
     pub fn answer(
         &mut self,

@@ -147,8 +147,8 @@ pub fn lines_of(
     Ok(lines)
 }
 
-/// The lines of names, where each has one, are read as these names, in order, unless the byte that
-/// ends them is a byte 9. A law, which does nothing at run time.
+/// The lines of names are read as these names, in order, if each has a line and the byte that ends
+/// them is not a byte 9. A law, which does nothing at run time.
 pub fn lines_read_back()
     ensures { LinesReadBack }
 {}

@@ -89,7 +89,7 @@ pub fn push_route_object(
     Ok(())
 }
 
-// The text of a network and its target, where there is one.
+// The text of a network and its target, if there is one.
 fn parts_of_network(network: Option<&Network>) -> (Option<Bytes<'_>>, Option<Bytes<'_>>)
     ensures text { option_map (λ b. bytes_text b.0.now) result.0
         ≡ option_map (λ network. bytes_text network.now.text) network.entry }

@@ -38,7 +38,7 @@ fn own<R: Files>(rt: &R, path: &str, file: &R::File, old: &Metadata) -> io::Resu
     file.set_permissions(old.permissions())
 }
 
-// Writes a new file, up to where it is on the disk.
+// Writes a new file, and waits until it is on the disk.
 fn fill<F: Write + OpenFile>(file: &mut F, bytes: &[u8]) -> io::Result<()> {
     file.write_all(bytes)?;
     file.sync_all()

@@ -24,7 +24,7 @@ abbrev pub IsOutputFailure : Failure → Type 0
 IsOutputFailure (Failures.Output e) = Unit {0}
 IsOutputFailure _ = ⊥
 
--- a writer, where what it has is known, gets the first of some bytes
+-- a writer, if its contents are known, gets the first of some bytes
 abbrev pub GetsFirst : Option (List ℕ) → Option (List ℕ) → List ℕ → Type 0
 GetsFirst old new bytes =
     IfSome old (λ had. (part : List ℕ) × (rest : List ℕ) × (bytes ≡ part ++ rest)
@@ -41,7 +41,8 @@ IsNamed question line number (Failures.Line path n error) =
     (n ≡ number) × IsAnswerFault question line error
 IsNamed question line number _ = Unit {0}
 
--- what waited is what a writer got, where what it has is known, and what still waits
+-- the bytes that waited are those that a writer got, if its contents are known, and those that
+-- still wait
 abbrev pub IsKept : Option (List ℕ) → Option (List ℕ) → List ℕ → List ℕ → Type 0
 IsKept old new waiting left =
     IfSome old (λ had. (part : List ℕ) × (new ≡ Some (had ++ part)) × (waiting ≡ part ++ left))
