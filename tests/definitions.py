@@ -235,15 +235,6 @@ def total(lines):
     return sum(map(len, lines.values()))
 
 
-def by_crate(lines):
-    """Files with their lines, as a sentence has them."""
-    crates = {}
-    for file, those in sorted(lines.items()):
-        name = file.rpartition('/')[2].removesuffix('.antt')
-        crates.setdefault(file.partition('/')[0], []).append('`%s` %d' % (name, len(those)))
-    return '; '.join('`%s`: %s' % (crate, ', '.join(files)) for crate, files in crates.items())
-
-
 def names():
     """The definitions that public clauses reach, by their names."""
     everything = counted()[0]['clauses for C besides'][1]
@@ -257,12 +248,7 @@ def page():
     yield 'those of library and `ptree` %d' % total(both)
     yield '`prefixes` stands on %d besides' % total(prefixes)
     yield 'the functions for C %d' % total(for_c)
-    yield '- The library: %s.' % by_crate(library)
-    yield '- `ptree`, besides: %s.' % by_crate(without(both, library))
-    yield '- `prefixes`, besides: %s;' % by_crate(prefixes)
-    yield '- For C, besides: %s.' % by_crate(for_c)
     yield 'Another %d lines are said by laws alone' % total(laws)
-    yield ': %s.' % by_crate(laws)
 
 
 def main():

@@ -9,7 +9,6 @@ from tests.support import ROOT, Case, run
 
 MOST_COLUMNS = 100
 # Of README and docs together, and of a paragraph, an item of a list or a row of a table. A word has no space in it.
-MOST_WORDS = 25000
 MOST_WORDS_OF_A_PARAGRAPH = 120
 LINK = re.compile(r'\[[^]]*\]\(([^)#:]+)(?:#[^)]*)?\)')
 
@@ -31,10 +30,6 @@ def paragraphs(text):
 
 class Documents(Case):
     """Examples of comments and pages, lengths, links, counts and charts."""
-
-    def test_pages_have_few_words(self):
-        counts = {path: len(text.split()) for path, text in pages().items()}
-        self.assertLess(sum(counts.values()), MOST_WORDS, counts)
 
     def test_paragraphs_have_few_words(self):
         long = ['%s: %d words from %.60r on' % (path, len(part.split()), part) for path, text in pages().items()

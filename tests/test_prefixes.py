@@ -1,20 +1,18 @@
-"""The program `prefixes`: the commands of its pages, what a terminal is told, and lists of the world against a plain
-model."""
+"""The program `prefixes`: the commands of its pages, what a terminal is told, and files and streams that fail."""
 import array
 import contextlib
 import fcntl
+import functools
 import os
 import pty
-import random
 import select
 import shutil
 import signal
 import subprocess
 import termios
 import time
-from tests.prefixes import model, networks
 from tests.prefixes.pages import FILES, PAGES, commands
-from tests.support import BUILDS, ROOT, Case, each, folder, pairs, run
+from tests.support import ROOT, Case, each, folder, pairs, run
 
 MOST_SECONDS = 120
 
@@ -40,7 +38,7 @@ class Pages(Case):
 
 
 class Progress(Case):
-    """A terminal has a line for each 100,000 lines of a list, and a file none."""
+    """A terminal has a line for each 100,000 lines or packed names of a list, and a file none."""
 
     READS = {
         'complete': [], 'near': [], 'stats': [], 'pack': [os.devnull],
@@ -53,10 +51,10 @@ class Progress(Case):
         with open(cls.path, 'w', encoding='utf-8') as file:
             file.writelines('%d\n' % n for n in range(350_000))
 
-    @each(*pairs(READS))
-    def terminal(self, command, build):
+    def told(self, path, command, build):
+        """What a terminal gets while a command reads a list."""
         terminal, errors = pty.openpty()
-        words = [self.program('prefixes', build), *command.split(), self.path, *self.READS[command]]
+        words = [self.program('prefixes', build), *command.split(), path, *self.READS[command]]
         subprocess.run(words, stdin=subprocess.DEVNULL, stdout=subprocess.DEVNULL, stderr=errors,
                        timeout=MOST_SECONDS, check=False)
         os.close(errors)
@@ -67,74 +65,24 @@ class Progress(Case):
         except OSError:  # nothing more is there
             pass
         os.close(terminal)
-        self.assertEqual(said, b''.join(b'prefixes: %d00000 lines read\r\n' % n for n in (1, 2, 3)))
+        return said.replace(b'\r\n', b'\n')
+
+    @each(*pairs(READS))
+    def terminal(self, command, build):
+        said = self.told(self.path, command, build)
+        self.assertEqual(said, b''.join(b'prefixes: %d00000 lines read\n' % n for n in (1, 2, 3)))
+
+    @each('clang', 'rattle')
+    def packed(self, build):
+        path = self.path + '.packed'
+        self.assert_ends(run([self.program('prefixes', build), 'pack', self.path, path]))
+        said = self.told(path, 'complete', build)
+        self.assertEqual(said, b''.join(b'prefixes: %d00000 names read\n' % n for n in (1, 2, 3)))
 
     @each('clang', 'rattle')
     def no_terminal(self, build):
         # no line was asked, so none was answered
         self.assert_ends(run([self.program('prefixes', build), 'complete', self.path]), status=1)
-
-
-class Lists(Case):
-    """Each command writes what the model does, of lists of the world and of lines that are made of their names, in each
-    form: the lists packed, too, and read from the standard input."""
-
-    @classmethod
-    def setUpClass(cls):
-        cls.room = folder(cls.addClassCleanup)
-        for form in model.FORMS:
-            for place in FILES:
-                shutil.copytree(place, os.path.join(cls.room, form), dirs_exist_ok=True)
-            for name in cls.names(form):
-                with open(os.path.join(cls.room, form, name), 'rb+') as file:
-                    data = model.formed(form, file.read())
-                    file.seek(0)
-                    file.write(data)
-
-    @classmethod
-    def names(cls, form):
-        return [entry.name for entry in os.scandir(os.path.join(cls.room, form)) if entry.is_file()]
-
-    @each(*((*case, build) for case in model.CASES for build in BUILDS))
-    def lists(self, words, form, build):
-        program, room, flags = self.program('prefixes', build), os.path.join(self.room, form), model.FORMS[form]
-        command, name, *more = words.split()
-        lines = b''
-        if words in model.ASKED:
-            lines = model.formed(form, model.asked_lines(words, os.path.join(self.room, 'lines', name)))
-        wanted, status = model.answered((command, name, *more, *flags), lines, room)
-        packed = folder(self.addCleanup)
-        for one in {name, *more} & {*self.names(form)}:
-            out = os.path.join(packed, one)
-            self.assert_ends(run([program, 'pack', one, out, *(flag for flag in flags if flag != '--json')], cwd=room))
-        for place in room, packed:
-            self.assert_ends(run([program, command, name, *more, *flags], lines, cwd=place), wanted, status=status)
-        if lines:
-            with open(os.path.join(room, name), 'rb') as listed, open(os.path.join(packed, 'lines'), 'wb') as file:
-                file.write(lines)
-                data = listed.read()
-            read = [program, command, '-', *more, *flags, '--lines', file.name]
-            self.assert_ends(run(read, data), wanted, status=status)
-
-
-class Networks(Case):
-    """Networks and addresses at random are answered as Python's `ipaddress` tells them, of a table as lines and packed."""
-
-    @each(*((count, build) for count in (1, 30, 1000) for build in ('clang', 'rattle')))
-    def table(self, count, build):
-        chosen, program = random.Random(count), self.program('prefixes', build)
-        table = networks.rows(chosen, count)
-        lines = networks.addresses(chosen, table)
-        paths = [os.path.join(folder(self.addCleanup), name) for name in ('lines', 'packed')]
-        with open(paths[0], 'w', encoding='utf-8') as file:
-            file.writelines('%s\t%s\n' % row for row in table)
-        self.assert_ends(run([program, 'pack', *paths]))
-        # a packed list has each name once, in the order of their bytes
-        for path, rows in zip(paths, (table, sorted(dict(table).items()))):
-            by_network = networks.table(rows)
-            wanted = ''.join(networks.answer(by_network, line) for line in lines).encode()
-            ran = run([program, 'route', path, '--cidr'], ''.join(line + '\n' for line in lines).encode())
-            self.assert_ends(ran, wanted, status=int(not wanted.replace(b'-\n', b'')))
 
 
 class Saved(Case):
@@ -293,8 +241,11 @@ class Waiting(Case):
     def interrupt(self, command, build):
         """The program waits for lines of a list or of an input that does not end."""
         words = [self.program('prefixes', build), *command.split(), '-']
+        pipes = {'stdin': subprocess.PIPE, 'stdout': subprocess.PIPE}
         lists = os.path.join(ROOT, 'tests', 'prefixes', 'lists')
-        with subprocess.Popen(words, stdin=subprocess.PIPE, stdout=subprocess.PIPE, cwd=lists) as process:
+        # a shell that runs the tests in the background has them ignore interrupts
+        heeds = functools.partial(signal.signal, signal.SIGINT, signal.SIG_DFL)
+        with subprocess.Popen(words, **pipes, cwd=lists, preexec_fn=heeds) as process:
             os.write(process.stdin.fileno(), b'foo\n' * 1000)
             while not is_read(process.stdin.fileno()) and process.poll() is None:
                 time.sleep(0.001)

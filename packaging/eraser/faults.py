@@ -85,7 +85,7 @@ FAULTS = [
     loses('a question mark is lost', 'patricia_codec/record.rt', 'out.push(self.flags())?;',
           'out.push(self.flags());'),
     loses('a negation is lost', 'patricia_nodes/arena/room.rt', '!self.has_room(0)', 'self.has_room(0)'),
-    loses('a comparison is strict', 'patricia_distance/distance_rows.rt', '*distance <= limit', '*distance < limit'),
+    loses('a comparison is strict', 'patricia_distance/distance_rows.rt', '*last <= limit', '*last < limit'),
     loses('a constant is another one', 'patricia_store/packed.rt', '281474976710655u64', '281474976710656u64'),
     loses('a return is lost', 'patricia_edits/insertion.rt', 'return Ok(insert_at(arena, &place, value));',
           'Ok(insert_at(arena, &place, value));'),

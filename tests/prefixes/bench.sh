@@ -56,8 +56,10 @@ timed "complete, 1,000 lines" some "$program" complete complete.list
 look_up='while IFS= read -r line; do LC_ALL=C look -- "$line" sorted | head -n 10; done'
 timed "complete, 1,000 lines, look for each" some bash -c "$look_up"
 # the last letter but one of each line is missing
+head -n 10 complete.list | sed 's/.\(.\)$/\1/' > some
+timed "complete, 10 lines" some "$program" complete complete.list
+timed "near -k 2, 10 lines" some "$program" near -k 2 complete.list
 if command -v tre-agrep > /dev/null; then
-    head -n 10 complete.list | sed 's/.\(.\)$/\1/' > some
     agrep='while IFS= read -r line; do LC_ALL=C tre-agrep -1 -- "^$line\$" complete.list; done'
     test "$("$program" near -n 1000 complete.list < some | grep -c $'^\t')" = "$(bash -c "$agrep" < some | wc -l)"
     timed "near, 10 lines" some "$program" near complete.list

@@ -1,14 +1,19 @@
 //! The examples of the calls of prefixes_core, as the documentation has them.
 
+ghost use Rattle.std.specs.Prelude.{if◌then◌else◌, None, Some, codes};
+ghost use Rattle.std.specs.Str.{bytes_eq};
+
 use patricia_tree::{StringPatriciaMap, StringPatriciaSet};
 use prefixes_core::listing::{Destination, Values, read_list};
 use prefixes_core::{
-    BlockList, Combination, LineFormat, NetworkError, Networks, Payload, SearchedNames,
-    UnpackError, combine, complete, draw, drop_subtree, first_completions, lines_of, measure, near,
-    network_of, pack, pack_names, parse_network, segment, subtree, unpack,
+    BlockList, Combination, Inputs, LineFormat, NetworkError, Networks, Opens, Payload,
+    SearchedNames, UnpackError, answer_all, combine, command, complete, draw, drop_subtree,
+    first_completions, lines_of, measure, near, network_of, pack, pack_names, parse_network,
+    segment, subtree, unpack,
 };
 use std::alloc::Global;
 use std::fmt::Debug;
+use std::io::{self, ErrorKind};
 use std::net::{IpAddr, Ipv4Addr};
 use std::process::Abort;
 
@@ -301,4 +306,68 @@ fn payload_as_bytes(rt: HostRuntime) {
     let payload = done(&rt, Payload::new(rt.alloc(), b"".as_slice()));
     assert!(rt; payload.as_bytes().is_empty());
     // end
+}
+
+// A list and lines in memory, as files of these names.
+#[derive(Clone, Copy)]
+struct Shelf<'a> {
+    list: &'a [u8],
+    lines: &'a [u8],
+}
+
+impl<'a> Opens for Shelf<'a> {
+    type File = &'a [u8];
+
+    ghost content = { λ shelf path. if bytes_eq path (codes "list") then Some shelf.list.now
+        else if bytes_eq path (codes "lines") then Some shelf.lines.now else None };
+
+    fn open_to_read(&self, path: &str) -> io::Result<&'a [u8]> {
+        match path {
+            "list" => Ok(self.list),
+            "lines" => Ok(self.lines),
+            _ => Err(io::Error::from(ErrorKind::NotFound)),
+        }
+    }
+}
+
+// What a command answers to the lines of a shelf about its list.
+fn answered_on(rt: &impl Abort, alloc: Global, shelf: &Shelf<'_>, words: &[&str]) -> Vec<u8> {
+    let matches = done(rt, done(rt, command(alloc)).try_get_matches_from(words));
+    let mut output = Vec::new(alloc);
+    let mut inputs = Inputs {
+        rt: shelf,
+        alloc,
+        standard: None::<&[u8]>,
+        progress: None::<Vec<u8>>,
+        format: LineFormat {
+            end: b'\n',
+            keeps_cr: false,
+        },
+    };
+    if let Some((name, matches)) = matches.subcommand() {
+        let found = done(rt, answer_all(&mut inputs, name, matches, &mut output));
+        assert!(rt; found);
+    }
+    output
+}
+
+#[test]
+fn lines_are_answered_about_a_list_in_memory(rt: HostRuntime) {
+    let words = [
+        "prefixes", "complete", "list", "--lines", "lines", "-n", "1",
+    ];
+    let lines = Shelf {
+        list: b"\xef\xbb\xbffoo\nbar\t1\r\nbaz\n",
+        lines: b"ba\nx\n",
+    };
+    let answer = answered_on(&rt, rt.alloc(), &lines, &words);
+    assert_eq!(rt; answer.as_slice(), b"ba\t2\n\tbar\nx\t0\n".as_slice());
+    let names = set_of(&rt, rt.alloc(), &["foo", "bar", "baz", ""]);
+    let packed = done(&rt, pack_names(rt.alloc(), &names));
+    let shelf = Shelf {
+        list: &packed,
+        lines: b"\nf",
+    };
+    let answer = answered_on(&rt, rt.alloc(), &shelf, &words);
+    assert_eq!(rt; answer.as_slice(), b"\t4\n\t\nf\t1\n\tfoo\n".as_slice());
 }

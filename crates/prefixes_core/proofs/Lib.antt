@@ -6,6 +6,9 @@ pub mod CutLemmas
 pub mod DrawingLemmas
 pub mod FarLemmas
 pub mod FaultLemmas
+pub mod FileLemmas
+pub mod FoldLemmas
+pub mod HeadLemmas
 pub mod LineLemmas
 pub mod ListLemmas
 pub mod LongestLemmas
@@ -20,9 +23,12 @@ pub mod ReadBackLemmas
 pub mod ReadLemmas
 pub mod RecordLemmas
 pub mod ResultLemmas
+pub mod RunLemmas
 pub mod SegmentLemmas
+pub mod SourceLemmas
 pub mod StopLemmas
 pub mod SubtreeLemmas
 pub mod TakenLemmas
 pub mod TogetherLemmas
 pub mod TurnLemmas
+pub mod WordLemmas

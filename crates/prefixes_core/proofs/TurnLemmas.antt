@@ -7,7 +7,7 @@ use Rattle.std.proofs.lemmas.Fn.{FoldsTo-push}
 use Rattle.std.proofs.lemmas.List.{append_assoc, append-nil, length-append, length_push}
 use Rattle.prefixes_core.specs.Answers.{IsAnswerFault, IsFound, IsRightLine, Leaves, Writes}
 use Rattle.prefixes_core.specs.Turns.{Answered, AnswersLine, AnswersAll, answered}
-use Rattle.prefixes_core.specs.Turns.{HasAnswers, IsNextRefused, IsStoppedAt}
+use Rattle.prefixes_core.specs.Turns.{HasAnswers, IsNextRefused, IsStoppedAt, NamesNoLine}
 use Rattle.prefixes_core.specs.Internal.Failures.{GetsFirst, IsInputFailure, IsKept, IsNamed}
 use Rattle.prefixes_core.specs.Internal.Failures.{IsOutputFailure, IsWritten}
 use Rattle.prefixes_core.specs.Internal.TakenLines.{read_text, TakesLine}
@@ -29,16 +29,11 @@ behind_any : (style : Style) (question : Question) (line old new : List ℕ)
 behind_any style question line old new writes =
     (writes.0, writes.1, λ text. (writes.0, refl, writes.2))
 
--- a failure names no line
-abbrev NamesNone : Failure → Type 0
-NamesNone (Failures.Line path n error) = ⊥
-NamesNone _ = Unit {0}
-
-of_output : (e : Failure) → IsOutputFailure e → NamesNone e
+of_output : (e : Failure) → IsOutputFailure e → NamesNoLine e
 of_output (Failures.Line path n error) is = absurd is
 of_output _ is = tt
 
-of_input : (e : Failure) → IsInputFailure e → NamesNone e
+of_input : (e : Failure) → IsInputFailure e → NamesNoLine e
 of_input (Failures.Line path n error) is = absurd is
 of_input _ is = tt
 
@@ -297,7 +292,7 @@ module _ (style : Style) (format : LineFormat) (first : Question) where
             }
 
     -- something else fails, and the answers so far are written
-    others_stop : (written : Option (List ℕ)) (e : Failure) → NamesNone e
+    others_stop : (written : Option (List ℕ)) (e : Failure) → NamesNoLine e
         → IsWritten contents written waiting e
         → IsAnsweredTo known before left contents question found waiting number
         → IfSome known (λ bytes. IfSome before (λ start.
@@ -305,7 +300,7 @@ module _ (style : Style) (format : LineFormat) (first : Question) where
     others_stop written e other puts so_far = by known before so_far
       where
         unnamed : (all : Answered) (count : ℕ) (after : List (List ℕ)) (e : Failure)
-            → NamesNone e → IsNextRefused all count after e
+            → NamesNoLine e → IsNextRefused all count after e
         unnamed all count after (Failures.Line path n error) other = absurd other
         unnamed all count [] _ other = tt
         unnamed all count (line ∷ after) _ other = tt
@@ -347,7 +342,7 @@ module _ (style : Style) (format : LineFormat) (first : Question) where
         IsStoppedAt style first (lines_of format bytes) start written e))
     input_stops written e fails = others_stop written e (by fails)
       where
-        by : IsInputFailure e ⊎ IsOutputFailure e → NamesNone e
+        by : IsInputFailure e ⊎ IsOutputFailure e → NamesNoLine e
         by (inl input) = of_input e input
         by (inr output) = of_output e output
 

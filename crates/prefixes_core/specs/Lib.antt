@@ -11,7 +11,11 @@ pub mod Nearest
 pub mod Networks
 pub mod Objects
 pub mod Packings
+pub mod Reads
+pub mod Requests
+pub mod Runs
 pub mod Segments
+pub mod Sources
 pub mod Subtrees
 pub mod Trees
 pub mod Turns

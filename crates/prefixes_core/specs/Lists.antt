@@ -99,6 +99,10 @@ module _ {S : Type 0} (Adds : S → List ℕ → List ℕ → S → Type 0) wher
   AddsLine old [] new = new ≡ old
   AddsLine old (b ∷ line) new = Adds old (name_of (b ∷ line)) (value_of (b ∷ line)) new
 
+  -- what it has once all entries are added, from the first to the last
+  abbrev pub AddsEntries : S → List (List ℕ × List ℕ) → S → Type 0
+  AddsEntries old entries new = FoldsTo (λ list e. Adds list e.0 e.1) old entries new
+
   -- what it has once all lines are read
   abbrev pub AddsLines : S → List (List ℕ) → S → Type 0
   AddsLines old lines new = FoldsTo AddsLine old lines new

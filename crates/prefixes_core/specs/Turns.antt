@@ -33,6 +33,11 @@ abbrev pub AnswersAll : Style → Question → List (List ℕ) → Answered → 
 AnswersAll style question lines all =
     FoldsTo (AnswersLine style) (answered question [] false) lines all
 
+-- a failure names no line of the input
+abbrev pub NamesNoLine : Failure → Type 0
+NamesNoLine (Failures.Line path n error) = ⊥
+NamesNoLine _ = Unit {0}
+
 -- what an error says of the lines from the first one on that is not answered: if it names a line,
 -- it is that one, counted from 1
 abbrev pub IsNextRefused : Answered → ℕ → List (List ℕ) → Failure → Type 0

@@ -1,6 +1,7 @@
 //! Why the program does not answer to the end.
 
 ghost use Rattle.prefixes_core.specs.Internal.Failures.{IsInputFailure, IsLineFailure};
+ghost use Rattle.prefixes_core.specs.Internal.Failures.{IsListFailure};
 
 use crate::answering::AnswerError;
 use crate::combining::LinesError;
@@ -36,13 +37,20 @@ pub enum Failure {
 }
 
 impl From<AllocError> for Failure {
+    ghost use Rattle.std.specs.Prelude.{◌≡◌};
+    ghost use Rattle.prefixes_core.specs.declared.failure.Failure.TheVariants.{Memory};
+
+    ghost from_gives = { λ _ e. e ≡ Memory };
+
     fn from(_: AllocError) -> Failure {
         Failure::Memory
     }
 }
 
 /// A list at a path is not read.
-pub fn list_failure(alloc: Global, path: &str, error: ListError) -> Failure {
+pub fn list_failure(alloc: Global, path: &str, error: ListError) -> Failure
+    ensures { IsListFailure result }
+{
     match String::from_str(alloc, path) {
         Ok(path) => Failure::List(path, error),
         Err(_) => Failure::Memory,

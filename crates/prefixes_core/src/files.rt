@@ -1,18 +1,23 @@
 //! Commands that write a list: one that is packed, and names that are combined.
 
-ghost use Rattle.std.specs.Prelude.{◌≡◌, ◌≢◌, ◌⊎◌, ◌∷◌, codes, IfOk, OnOk};
+ghost use Rattle.std.specs.Prelude.{◌≡◌, ◌≢◌, ◌⊎◌, ◌∷◌, codes, map as list_map};
+ghost use Rattle.std.specs.Prelude.{IfOk, OnOk};
 ghost use Rattle.std.specs.Bool.{MatchBool};
 ghost use Rattle.std.specs.FinMap as map;
 ghost use Rattle.std.specs.Io.KnownBytes.{Appends};
 ghost use Rattle.prefixes_core.specs.Internal.Hidden.{IsHidden, IsPlain};
 ghost use Rattle.prefixes_core.specs.Lines.{IsListOf};
 ghost use Rattle.prefixes_core.specs.Packings.{ArePackedBytes, without_values};
+ghost use Rattle.prefixes_core.specs.Combinations.{CombinesAll, CombinesWith};
+ghost use Rattle.prefixes_core.specs.Internal.Inputs.{IsAfter};
+ghost use Rattle.prefixes_core.specs.Sources.{HasBytes};
 
 use crate::combining::{Combination, combine, lines_of};
 use crate::failure::{Failure, lines_failure, pack_failure, write_failure};
 use crate::inputs::{Inputs, shown};
 use crate::lines::{LineFormat, unmarked};
 use crate::listing::NameSet;
+use crate::opening::Opens;
 use crate::options::{line_format, path};
 use crate::output::put;
 use crate::packing::{HEAD, pack, pack_names};
@@ -72,7 +77,12 @@ pub fn pack_file<R: Files, I: Read + Drop, E: Write + Drop, W: Write>(
 }
 
 // How a subcommand combines sets.
-fn combination(name: &str) -> Combination {
+fn combination(name: &str) -> Combination
+    ensures union { name.now ≡ codes "union" → result ≡ Combination.Union }
+    ensures intersection { name.now ≡ codes "intersection"
+        → result ≡ Combination.Intersection }
+    ensures difference { name.now ≡ codes "difference" → result ≡ Combination.Difference }
+{
     match name {
         "union" => Combination::Union,
         "intersection" => Combination::Intersection,
@@ -81,12 +91,16 @@ fn combination(name: &str) -> Combination {
 }
 
 // Names, combined with those of the list at a path.
-fn combined_with<R: Files, I: Read + Drop, E: Write + Drop>(
+fn combined_with<R: Opens, I: Read + Drop, E: Write + Drop>(
     inputs: &mut Inputs<'_, R, I, E>,
     combination: Combination,
     names: NameSet,
     list: &str,
-) -> Result<NameSet, Failure> {
+) -> Result<NameSet, Failure>
+    ensures combined { IfOk result (CombinesWith inputs.old.format
+        (HasBytes R.content I.remaining inputs.old) combination names list.now) }
+    ensures after { IsAfter inputs.old inputs.new }
+{
     let other = inputs.set(list)?;
     let both = combine(combination, &names, &other);
     drop(names);
@@ -95,11 +109,15 @@ fn combined_with<R: Files, I: Read + Drop, E: Write + Drop>(
 }
 
 // The names of the lists, combined from the first to the last.
-fn combined<R: Files, I: Read + Drop, E: Write + Drop>(
+fn combined<R: Opens, I: Read + Drop, E: Write + Drop>(
     inputs: &mut Inputs<'_, R, I, E>,
     combination: Combination,
     lists: &[&str],
-) -> Result<NameSet, Failure> {
+) -> Result<NameSet, Failure>
+    ensures { IfOk result (CombinesAll inputs.old.format
+        (HasBytes R.content I.remaining inputs.old) combination
+        (list_map (λ path. path.now) lists.now)) }
+{
     let Some((first, others)) = lists.split_first() else {
         return Ok(NameSet::new(inputs.alloc));
     };

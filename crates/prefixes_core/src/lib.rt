@@ -4,6 +4,7 @@
 #![tactic(auto)]
 
 pub mod answering;
+mod asking;
 pub mod blocking;
 pub mod combining;
 pub mod completing;
@@ -12,6 +13,7 @@ pub mod dotted;
 pub mod drawing;
 mod failure;
 mod files;
+mod heads;
 mod inputs;
 mod json;
 mod lines;
@@ -20,6 +22,7 @@ pub mod measuring;
 pub mod nearing;
 pub mod networks;
 mod objects;
+mod opening;
 mod options;
 mod output;
 pub mod packable;
@@ -36,10 +39,13 @@ pub use completing::{Completions, complete, first_completions};
 pub use cutting::segment;
 pub use dotted::{drop_subtree, subtree};
 pub use drawing::{Node, draw};
+pub use inputs::Inputs;
 pub use lines::LineFormat;
 pub use measuring::{Measures, measure};
 pub use nearing::{NearName, NearNames, SearchedNames, near};
 pub use networks::{Network, NetworkError, Networks, network_of, parse_network};
+pub use opening::Opens;
+pub use options::command;
 pub use packing::{PackError, UnpackError, pack, pack_names, unpack};
-pub use program::serve;
+pub use program::{answer_all, serve};
 pub use value::Payload;

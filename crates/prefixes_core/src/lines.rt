@@ -5,10 +5,12 @@ ghost use Rattle.std.specs.Prelude.{IfOk, IfSome};
 ghost use Rattle.std.specs.Io.BufRead.{strip_last};
 ghost use Rattle.std.specs.List.{All};
 ghost use Rattle.std.specs.Str.{IsUtf8};
+ghost use Rattle.prefixes_core.specs.Internal.Heads.{IsSplit};
 ghost use Rattle.prefixes_core.specs.Internal.TakenLines.{read_text as text_of_read, TakesLine};
 ghost use Rattle.prefixes_core.specs.Internal.Together.{CutsLines};
 ghost use Rattle.prefixes_core.specs.Lists.{line_text as text_of_line, unmarked as unmarked_bytes};
 
+use crate::heads::fill;
 use memchr::memchr;
 use std::alloc::{AllocError, Global};
 use std::io::{self, BufRead, Read};
@@ -79,11 +81,18 @@ pub fn read_unmarked<R: Read>(
     alloc: Global,
     input: &mut R,
     format: LineFormat,
-) -> io::Result<Vec<u8>> {
+) -> io::Result<Vec<u8>>
+    ensures { IfOk result (λ head. IsSplit (R.remaining input.old) (R.remaining input.new)
+        (unmarked_bytes format) head.items) }
+{
     let mut head = Vec::new(alloc);
-    for len in 1..=MARK.len() {
-        input.by_ref().take(1).read_to_end(&mut head)?;
-        if head.len() < len || !MARK.starts_with(&head) {
+    while head.len() < MARK.len() {
+        let mut byte = [0];
+        if fill(input, &mut byte)? == 0 {
+            return Ok(head);
+        }
+        head.push(byte[0])?;
+        if !MARK.starts_with(&head) {
             return Ok(head);
         }
     }

@@ -6,11 +6,15 @@ ghost use Rattle.std.specs.FinMap as map;
 ghost use Rattle.std.specs.List.{All};
 ghost use Rattle.std.specs.Str.{IsUtf8, IsValidUpTo};
 ghost use Rattle.prefixes_core.specs.Blocks.{folded as folded_name};
-ghost use Rattle.prefixes_core.specs.Lists.{name_of, value_of, lines_of, AddsLine, AddsLines};
+ghost use Rattle.prefixes_core.specs.Lists.{name_of, value_of, lines_of};
+ghost use Rattle.prefixes_core.specs.Lists.{AddsEntries, AddsLine, AddsLines};
 ghost use Rattle.prefixes_core.specs.Lists.{IsListLine, IsLineFault, IsListFault, IsEntryFault};
 ghost use Rattle.prefixes_core.specs.Networks.{IsNetwork, AddsNetwork};
+ghost use Rattle.prefixes_core.specs.Reads.{Reads, ReadsPacked};
+ghost use Rattle.prefixes_core.specs.Sources.{OfBytes};
 
 use crate::blocking::{BlockList, folded};
+use crate::heads::{fill, read_after};
 use crate::lines::{LineFormat, next_line, read_text, unmarked};
 use crate::networks::{Network, NetworkError, Networks, network_key, parse_network};
 use crate::packing::{HEAD, UnpackError, unpack};
@@ -19,7 +23,7 @@ use memchr::memchr;
 use patricia_tree::router::Router;
 use patricia_tree::{StringPatriciaMap, StringPatriciaSet};
 use std::alloc::{AllocError, AllocFailed, Global};
-use std::io::{self, BufRead, BufReader, Read, Write};
+use std::io::{self, BufRead, Read, Write};
 use std::str;
 use thiserror::Error;
 
@@ -166,17 +170,28 @@ pub trait Destination {
         ensures taken { OnOk result (IsName name.now) }
         ensures named { IfErr result (λ e. IsEntryFault IsName name.now e) };
 
-    /// Adds the names of a list with their values.
+    /// Adds the names of a list with their values. If there is a `progress`, it gets a line for
+    /// each 100,000 of them.
     ///
     /// # Errors
     ///
     /// A name is not one that is taken, or out of memory: some of them are added.
-    fn add_list(&mut self, alloc: Global, list: Listing) -> Result<(), ListError> {
+    fn add_list<W: Write>(
+        &mut self,
+        alloc: Global,
+        list: Listing,
+        progress: &mut Option<W>,
+    ) -> Result<(), ListError>
+        ensures { OnOk result (AddsEntries Adds self.old (map.entries list) self.new) }
+    {
+        let mut number: u64 = 0;
         for entry in list {
             let (name, value) = entry?;
             if let Err(error) = self.add_entry(alloc, name.as_str(), value.as_bytes()) {
                 return Err(packed_failure(alloc, name.as_str(), error));
             }
+            number = number.saturating_add(1);
+            tell(progress, number, "names");
         }
         Ok(())
     }
@@ -295,11 +310,11 @@ fn add_line<S: Destination>(
 }
 
 // Tells how far a long list is read.
-fn tell<W: Write>(progress: &mut Option<W>, number: u64) {
+fn tell<W: Write>(progress: &mut Option<W>, number: u64, unit: &str) {
     if number % 100_000 == 0
         && let Some(progress) = progress
     {
-        let _ = writeln!(progress, "prefixes: {number} lines read");
+        let _ = writeln!(progress, "prefixes: {number} {unit} read");
     }
 }
 
@@ -326,33 +341,27 @@ fn read_lines<R: BufRead, W: Write, S: Destination>(
         }
         let line = read_text(&line, format);
         match add_line(alloc, destination, line, number, values) {
-            Ok(()) => tell(progress, number),
+            Ok(()) => tell(progress, number, "lines"),
             Err(error) => return Err(error),
         }
     }
     Ok(())
 }
 
-// Reads what stands where the head of a packed list would: as many bytes as that has, in however
-// many pieces they come, or fewer where a file ends before.
-fn read_head<R: Read>(alloc: Global, file: &mut R) -> io::Result<Vec<u8>> {
-    let mut head = Vec::new(alloc);
-    file.by_ref()
-        .take(HEAD.len() as u64)
-        .read_to_end(&mut head)?;
-    Ok(head)
-}
-
 // Reads a packed list, and adds its entries.
-fn read_packed<R: Read, S: Destination>(
+fn read_packed<R: Read, W: Write, S: Destination>(
     alloc: Global,
     reader: &mut R,
+    progress: &mut Option<W>,
     destination: &mut S,
-) -> Result<(), ListError> {
+) -> Result<(), ListError>
+    ensures { OnOk result (IfSome (R.remaining reader.old) (λ bytes.
+        ReadsPacked S.Adds bytes destination.old destination.new)) }
+{
     let mut bytes = Vec::new(alloc);
     reader.read_to_end(&mut bytes)?;
     match unpack(alloc, &bytes) {
-        Ok(list) => destination.add_list(alloc, list),
+        Ok(list) => destination.add_list(alloc, list, progress),
         Err(UnpackError::Memory) => Err(ListError::Memory),
         Err(fault) => Err(ListError::Packed(fault)),
     }
@@ -362,8 +371,8 @@ fn read_packed<R: Read, S: Destination>(
 /// for each name.
 ///
 /// A line is a name, and after its first byte 9 the value. Empty lines are passed over. If there is
-/// a `progress`, it gets a line for each 100,000 that are read. Takes memory in proportion to the
-/// list and its longest line, and to the bytes of a packed list too.
+/// a `progress`, it gets a line for each 100,000 lines or packed names that are read. Takes memory
+/// in proportion to the list and its longest line, and to the bytes of a packed list too.
 ///
 /// # Errors
 ///
@@ -375,13 +384,17 @@ pub fn read_list<R: Read + Drop, W: Write, S: Destination>(
     format: LineFormat,
     progress: &mut Option<W>,
     destination: &mut S,
-) -> Result<(), ListError> {
-    let head = read_head(alloc, &mut file)?;
-    if head.as_slice() == HEAD {
-        let mut reader = BufReader::new(alloc, head.as_slice().chain(file))?;
-        return read_packed(alloc, &mut reader, destination);
+) -> Result<(), ListError>
+    ensures { OnOk result (OfBytes (λ bytes. R.remaining file ≡ Some bytes) (λ bytes.
+        Reads S.IsName S.Adds format values bytes destination.old destination.new)) }
+{
+    let mut room = [0; 9];
+    let len = fill(&mut file, &mut room)?;
+    let head = &room[..len];
+    if head == HEAD {
+        let mut reader = read_after(alloc, head, file)?;
+        return read_packed(alloc, &mut reader, progress, destination);
     }
-    let first = unmarked(&head, format);
-    let mut reader = BufReader::new(alloc, first.chain(file))?;
+    let mut reader = read_after(alloc, unmarked(head, format), file)?;
     read_lines(alloc, &mut reader, values, format, progress, destination)
 }

@@ -1,5 +1,8 @@
 //! The words of the command line.
 
+ghost use Rattle.std.specs.Prelude.{◌≡◌, []};
+ghost use Rattle.prefixes_core.specs.Requests.{text_or};
+
 use crate::lines::LineFormat;
 use clap::{Arg, ArgAction, ArgMatches, Command, value_parser};
 use std::alloc::{AllocError, Global};
@@ -254,7 +257,9 @@ pub fn line_format(matches: &ArgMatches<'_>) -> LineFormat {
 }
 
 /// The path that a command has for one of its files, which are required.
-pub fn path<'a>(matches: &ArgMatches<'a>, id: &str) -> &'a str {
+pub fn path<'a>(matches: &ArgMatches<'a>, id: &str) -> &'a str
+    ensures { result.now ≡ text_or matches.now [] id.now }
+{
     matches.get_str(id).unwrap_or("")
 }
 

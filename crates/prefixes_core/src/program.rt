@@ -1,7 +1,7 @@
 //! The program over its words, its files and its streams.
 
 ghost use Rattle.std.specs.Prelude.{◌≡◌, ◌⊎◌, ◌<◌, ◌≤◌, ◌^◌, ◌++◌, if◌then◌else◌, ℕ, List};
-ghost use Rattle.std.specs.Prelude.{length, IfOk, OnOk, IfErr, OnErr, IfSome, Some};
+ghost use Rattle.std.specs.Prelude.{length, codes, IfOk, OnOk, IfErr, OnErr, IfSome, Some};
 ghost use Rattle.std.specs.Io.Buffered.{reader_remaining};
 ghost use Rattle.prefixes_core.specs.Answers.{Writes, IsFound, Leaves, IsRightLine, IsAnswerFault};
 ghost use Rattle.prefixes_core.specs.Internal.Failures.{IsInputFailure, IsNamed};
@@ -9,23 +9,26 @@ ghost use Rattle.prefixes_core.specs.Internal.Failures.{IsOutputFailure, IsWritt
 ghost use Rattle.prefixes_core.specs.Internal.TakenLines.{TakesLine};
 ghost use Rattle.prefixes_core.specs.Internal.Together.{TakesTogether};
 ghost use Rattle.prefixes_core.specs.Lists.{lines_of};
+ghost use Rattle.prefixes_core.specs.Requests.{IsStyle, text_or};
+ghost use Rattle.prefixes_core.specs.Runs.{Answers, AnswersInput, EndsEarly, StopsInput};
+ghost use Rattle.prefixes_core.specs.Sources.{HasBytes};
 ghost use Rattle.prefixes_core.specs.Turns.{AnswersAll, answered, IsStoppedAt};
 
 use crate::answering::together::answer_front;
 use crate::answering::{AnswerError, Question, Style};
+use crate::asking::question;
 use crate::failure::{Failure, input_failure, line_failure};
 use crate::files::{combine_files, pack_file};
+use crate::heads::read_after;
 use crate::inputs::{Inputs, shown};
 use crate::lines::{LineFormat, MOST_TOGETHER, next_line, read_text, read_unmarked};
-use crate::listing::Names;
-use crate::nearing::SearchedNames;
-use crate::options::{self, line_format, path};
+use crate::opening::Opens;
+use crate::options::{self, line_format};
 use crate::output::{put, put_if, stop};
 use crate::showing::{show_measures, show_tree};
 use clap::ArgMatches;
 use memchr::memchr;
 use std::alloc::Global;
-use std::fs;
 use std::io::{self, BufRead, BufReader, ErrorKind, Read, Write};
 use std::rt::Files;
 
@@ -39,77 +42,6 @@ const MOST_LINES: u64 = u64::MAX - MOST_TOGETHER as u64;
 // The status if nobody reads the standard output any more: that which a shell shows for a program
 // that the signal SIGPIPE ends, as it ends `grep`.
 const CLOSED: u8 = 141;
-
-// How many entries a command shows for each line.
-fn most(matches: &ArgMatches<'_>) -> usize {
-    matches.get_one::<u32>("most").unwrap_or(10) as usize
-}
-
-// What `complete` asks.
-fn completions(matches: &ArgMatches<'_>, names: Names, most: usize) -> Question {
-    if matches.get_flag("no-count") {
-        Question::First(names, most)
-    } else {
-        Question::Complete(names, most)
-    }
-}
-
-// What a command asks of names that it finds some of.
-fn some_question<R: Files, I: Read + Drop, E: Write + Drop>(
-    inputs: &mut Inputs<'_, R, I, E>,
-    name: &str,
-    matches: &ArgMatches<'_>,
-) -> Result<Question, Failure> {
-    let names = inputs.names(path(matches, "LIST"))?;
-    let most = most(matches);
-    if name == "complete" {
-        return Ok(completions(matches, names, most));
-    }
-    let edits = matches.get_one::<u8>("edits").unwrap_or(1);
-    let searched = SearchedNames::new(names)?;
-    Ok(Question::Near(searched, u32::from(edits), most))
-}
-
-// What the command about routes asks.
-fn route_question<R: Files, I: Read + Drop, E: Write + Drop>(
-    inputs: &mut Inputs<'_, R, I, E>,
-    matches: &ArgMatches<'_>,
-) -> Result<Question, Failure> {
-    let path = path(matches, "TABLE");
-    if matches.get_flag("cidr") {
-        Ok(Question::Network(inputs.networks(path)?))
-    } else {
-        Ok(Question::Route(inputs.router(path)?))
-    }
-}
-
-// What the command about subtrees asks.
-fn tree_question<R: Files, I: Read + Drop, E: Write + Drop>(
-    inputs: &mut Inputs<'_, R, I, E>,
-    matches: &ArgMatches<'_>,
-) -> Result<Question, Failure> {
-    let list = inputs.list(path(matches, "LIST"))?;
-    if matches.get_flag("drop") {
-        Ok(Question::DropTree(list))
-    } else {
-        Ok(Question::Tree(list))
-    }
-}
-
-// What a command asks, once its list is read.
-fn question<R: Files, I: Read + Drop, E: Write + Drop>(
-    inputs: &mut Inputs<'_, R, I, E>,
-    name: &str,
-    matches: &ArgMatches<'_>,
-) -> Result<Question, Failure> {
-    match name {
-        "route" => route_question(inputs, matches),
-        "block" => Ok(Question::Block(inputs.block_list(path(matches, "LIST"))?)),
-        "segment" => Ok(Question::Segment(inputs.names(path(matches, "DICTIONARY"))?)),
-        "complete" | "near" => some_question(inputs, name, matches),
-        _ => tree_question(inputs, matches),
-    }
-}
 
 // Lines that are read from a file or the standard input, and how they are answered.
 #[derive(Clone, Copy)]
@@ -146,7 +78,7 @@ fn read_line<R: BufRead, W: Write>(
     }
 }
 
-// Writes the answer to a line behind those that wait, which stay as they are where it is refused.
+// Writes the answer to a line after those that wait, which stay as they are if it is refused.
 fn add_answer(
     alloc: Global,
     question: &mut Question,
@@ -285,44 +217,64 @@ fn answer_lines<F: Read + Drop, W: Write>(
     mut input: F,
     asked: &Asked<'_>,
     output: &mut W,
-) -> Result<bool, Failure> {
+) -> Result<bool, Failure>
+    ensures answered { IfOk result (AnswersInput asked.now.style asked.now.format question.old
+        (λ bytes. F.remaining input ≡ Some bytes) (W.contents output.old) (W.contents output.new)
+        question.new) }
+    ensures stopped { IfErr result (StopsInput asked.now.style asked.now.format question.old
+        (λ bytes. F.remaining input ≡ Some bytes) (W.contents output.old)
+        (W.contents output.new)) }
+{
     let head = match read_unmarked(alloc, &mut input, asked.format) {
         Ok(head) => head,
         Err(error) => return Err(input_failure(alloc, shown(asked.path), error)),
     };
-    match BufReader::new(alloc, head.as_slice().chain(input)) {
+    match read_after(alloc, &head, input) {
         Ok(mut reader) => answer_each(alloc, question, &mut reader, asked, output),
         Err(error) => Err(input_failure(alloc, shown(asked.path), error)),
     }
 }
 
 // How the command line says that answers are written.
-fn style(matches: &ArgMatches<'_>, end: u8) -> Style {
+fn style(matches: &ArgMatches<'_>, format: LineFormat) -> Style
+    ensures { IsStyle matches.now format result }
+{
     if matches.get_flag("json") {
         Style::Json
     } else {
-        Style::Lines(end)
+        Style::Lines(format.end)
     }
 }
 
 // How the command line says that lines are read and answered.
-fn form_of<'p>(matches: &ArgMatches<'p>, format: LineFormat) -> Asked<'p> {
+fn form_of<'p>(matches: &ArgMatches<'p>, format: LineFormat) -> Asked<'p>
+    ensures path { result.path.now ≡ text_or matches.now (codes "-") (codes "lines") }
+    ensures format { result.format ≡ format }
+    ensures style { IsStyle matches.now format result.style }
+{
     Asked {
         path: matches.get_str("lines").unwrap_or("-"),
         format,
-        style: style(matches, format.end),
+        style: style(matches, format),
     }
 }
 
 // Answers the lines of a file.
-fn answer_file<R: Files, W: Write>(
+fn answer_file<R: Opens, W: Write>(
     rt: &R,
     alloc: Global,
     question: &mut Question,
     asked: &Asked<'_>,
     output: &mut W,
-) -> Result<bool, Failure> {
-    match fs::open(rt, asked.path) {
+) -> Result<bool, Failure>
+    ensures answered { IfOk result (AnswersInput asked.now.style asked.now.format question.old
+        (λ bytes. R.content rt.now asked.now.path.now ≡ Some bytes) (W.contents output.old)
+        (W.contents output.new) question.new) }
+    ensures stopped { IfErr result (StopsInput asked.now.style asked.now.format question.old
+        (λ bytes. R.content rt.now asked.now.path.now ≡ Some bytes) (W.contents output.old)
+        (W.contents output.new)) }
+{
+    match rt.open_to_read(asked.path) {
         Ok(file) => answer_lines(alloc, question, file, asked, output),
         Err(error) => Err(input_failure(alloc, asked.path, error)),
     }
@@ -335,7 +287,14 @@ fn answer_standard<I: Read + Drop, W: Write>(
     standard: Option<I>,
     asked: &Asked<'_>,
     output: &mut W,
-) -> Result<bool, Failure> {
+) -> Result<bool, Failure>
+    ensures answered { IfOk result (AnswersInput asked.now.style asked.now.format question.old
+        (λ bytes. IfSome standard (λ input. I.remaining input ≡ Some bytes))
+        (W.contents output.old) (W.contents output.new) question.new) }
+    ensures stopped { IfErr result (StopsInput asked.now.style asked.now.format question.old
+        (λ bytes. IfSome standard (λ input. I.remaining input ≡ Some bytes))
+        (W.contents output.old) (W.contents output.new)) }
+{
     match standard {
         Some(input) => answer_lines(alloc, question, input, asked, output),
         None => Err(Failure::ReadTwice),
@@ -343,12 +302,19 @@ fn answer_standard<I: Read + Drop, W: Write>(
 }
 
 // Answers the lines of a file or of the standard input.
-fn answer_asked<R: Files, I: Read + Drop, W: Write, E: Write + Drop>(
+fn answer_asked<R: Opens, I: Read + Drop, W: Write, E: Write + Drop>(
     inputs: &mut Inputs<'_, R, I, E>,
     question: &mut Question,
     asked: &Asked<'_>,
     output: &mut W,
-) -> Result<bool, Failure> {
+) -> Result<bool, Failure>
+    ensures answered { IfOk result (AnswersInput asked.now.style asked.now.format question.old
+        (HasBytes R.content I.remaining inputs.old asked.now.path.now) (W.contents output.old)
+        (W.contents output.new) question.new) }
+    ensures stopped { IfErr result (StopsInput asked.now.style asked.now.format question.old
+        (HasBytes R.content I.remaining inputs.old asked.now.path.now) (W.contents output.old)
+        (W.contents output.new)) }
+{
     if asked.path == "-" {
         let standard = inputs.standard.take();
         answer_standard(inputs.alloc, question, standard, asked, output)
@@ -357,13 +323,25 @@ fn answer_asked<R: Files, I: Read + Drop, W: Write, E: Write + Drop>(
     }
 }
 
-// Answers lines about a list, and returns whether something was found.
-fn answer_all<R: Files, I: Read + Drop, W: Write, E: Write + Drop>(
+/// Answers lines about a list, and returns whether something was found. The command has this name
+/// and these arguments.
+///
+/// # Errors
+///
+/// Why a list is not read, or a line not answered; the answers to the lines before it are written.
+pub fn answer_all<R: Opens, I: Read + Drop, W: Write, E: Write + Drop>(
     inputs: &mut Inputs<'_, R, I, E>,
     name: &str,
     matches: &ArgMatches<'_>,
     output: &mut W,
-) -> Result<bool, Failure> {
+) -> Result<bool, Failure>
+    ensures answered { IfOk result (Answers name.now matches.now inputs.old.format
+        (HasBytes R.content I.remaining inputs.old) (W.contents output.old)
+        (W.contents output.new)) }
+    ensures stopped { IfErr result (EndsEarly name.now matches.now inputs.old.format
+        (HasBytes R.content I.remaining inputs.old) (W.contents output.old)
+        (W.contents output.new)) }
+{
     let mut question = question(inputs, name, matches)?;
     let asked = form_of(matches, inputs.format);
     let found = answer_asked(inputs, &mut question, &asked, output);

@@ -13,12 +13,12 @@ use crate::failure::{Failure, pack_failure};
 use crate::inputs::{Inputs, shown};
 use crate::listing::Names;
 use crate::measuring::{measure, push_measures};
+use crate::opening::Opens;
 use crate::options::path;
 use crate::output::put;
 use clap::ArgMatches;
 use std::alloc::Global;
 use std::io::{Read, Write};
-use std::rt::Files;
 
 // Writes what a list takes, and returns whether it has a name.
 fn put_measures<W: Write>(
@@ -44,7 +44,7 @@ fn put_measures<W: Write>(
 }
 
 /// Shows what the list at a path takes, and returns whether it has a name.
-pub fn show_measures<R: Files, I: Read + Drop, E: Write + Drop, W: Write>(
+pub fn show_measures<R: Opens, I: Read + Drop, E: Write + Drop, W: Write>(
     inputs: &mut Inputs<'_, R, I, E>,
     matches: &ArgMatches<'_>,
     output: &mut W,
@@ -95,7 +95,7 @@ fn put_tree<W: Write>(
 }
 
 /// Shows the tree of the names that begin with a prefix, and returns whether there is one.
-pub fn show_tree<R: Files, I: Read + Drop, E: Write + Drop, W: Write>(
+pub fn show_tree<R: Opens, I: Read + Drop, E: Write + Drop, W: Write>(
     inputs: &mut Inputs<'_, R, I, E>,
     matches: &ArgMatches<'_>,
     output: &mut W,

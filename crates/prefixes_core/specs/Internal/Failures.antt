@@ -19,6 +19,13 @@ IsInputFailure (Failures.Input path e) = Unit {0}
 IsInputFailure Failures.Memory = Unit {0}
 IsInputFailure _ = ⊥
 
+-- a list is not read
+abbrev pub IsListFailure : Failure → Type 0
+IsListFailure (Failures.List path e) = Unit {0}
+IsListFailure Failures.ReadTwice = Unit {0}
+IsListFailure Failures.Memory = Unit {0}
+IsListFailure _ = ⊥
+
 -- the output is not written
 abbrev pub IsOutputFailure : Failure → Type 0
 IsOutputFailure (Failures.Output e) = Unit {0}

@@ -9,5 +9,5 @@ returns-clause-written c =
     let first = list_map (λ near. (string_bytes near.name, near.edits)) found.first.items in (
       near_text c.args.style c.args.line.now found.count first,
       c.in_ok-push_near.ensures,
-      (first, found.count, c.in_ok-found.ensures, refl),
+      (first, found.count, c.in_ok-found.ensures.nearest, refl),
     )
