@@ -172,16 +172,30 @@ class Deep(Case):
 
 
 class Long(Case):
-    """A line that is much longer than all names is near none, and takes little memory besides its own."""
+    """A line that is much longer than all names is near none, and takes little memory besides its own. A search for a
+    long name takes memory in proportion to its length."""
 
-    LINE, MOST_KILOBYTES = b'foo' * 7_000_000 + b'\n', 400_000
+    MOST_KILOBYTES = 400_000
+
+    def near(self, build, path, line):
+        words = [self.program('prefixes', build), 'near', path, '-k', '2']
+        limited = ['bash', '-c', 'ulimit -v %d; exec "$@"' % self.MOST_KILOBYTES, 'bash', *words]
+        return run(limited, line + b'\n')
 
     @each('clang', 'rattle')
     def line(self, build):
+        line = b'foo' * 7_000_000
         path = os.path.join(ROOT, 'tests', 'prefixes', 'lists', 'names')
-        words = [self.program('prefixes', build), 'near', path, '-k', '2']
-        limited = ['bash', '-c', 'ulimit -v %d; exec "$@"' % self.MOST_KILOBYTES, 'bash', *words]
-        self.assert_ends(run(limited, self.LINE), self.LINE[:-1] + b'\t0\n', status=1)
+        self.assert_ends(self.near(build, path, line), line + b'\t0\n', status=1)
+
+    @each('clang', 'rattle')
+    def name(self, build):
+        name = b'ab' * 100_000
+        line = b'x' + name[1:-1]
+        path = os.path.join(folder(self.addCleanup), 'list')
+        with open(path, 'wb') as file:
+            file.write(name + b'\nfoo\n')
+        self.assert_ends(self.near(build, path, line), line + b'\t1\n\t' + name + b'\t2\n')
 
 
 def is_read(pipe):
